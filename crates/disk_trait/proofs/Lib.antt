@@ -1,0 +1,4 @@
+pub mod Crash
+pub mod Inverts
+pub mod Moments
+pub mod Overlays

@@ -1,0 +1,337 @@
+ghost use Rattle.std.specs.Prelude.{◌≡◌, ◌+◌, ◌-◌, ◌==◌, ◌≤◌, ◌<◌, ◌^◌, min, max, is_ok, not, IfErr, ℕ, List, [], ◌∷◌, ◌++◌, length, take, drop, map, IfOk, OnOk, OnErr, IsOk, vec_len, vec_capacity, cond, if◌then◌else◌};
+ghost use Rattle.std.specs.List.{list_any};
+ghost use Rattle.group_fields.specs.Counts.{greatest_count, IsRaised};
+ghost use Rattle.disk_trait.specs.Disk.{LeavesOnly, ReadsPart};
+ghost use Rattle.disk_trait.specs.Images.{content_image, image_now, only_image_now, same_fate, same_fate_on};
+ghost use Rattle.disk_trait.specs.declared.disk.DiskError.TheVariants.{Failed};
+ghost use Rattle.disk_trait.specs.declared.memory.Change.TheVariants.{Write, Sync};
+ghost use Rattle.disk_trait.specs.Replay.{overwritten, overlay, overlay_inverted, inverted, AllWrites, Settles, fresh, replayed, content_of, IsImage, IsImageSince, SameFate, crash_image};
+
+use crate::{Disk, DiskError};
+use group_fields::{Bytes, Counts, Memory};
+use std::alloc::{AllocError, Global};
+
+/// A change that a disk in memory went through.
+#[derive(Debug, Drop)]
+pub(crate) enum Change {
+    Write(usize, Bytes),
+    Sync,
+}
+
+/// Whether a call is one of those that are to fail.
+fn is_due(failing: &[u32], call: u64) -> bool
+    ensures { result ≡ list_any (λ number. number == call) failing.now }
+{
+    failing.iter().any(|number| u64::from(*number) == call)
+}
+
+/// Copies bytes with each of them inverted.
+fn copy_inverted(part: &mut [u8], bytes: &[u8])
+    requires { length part.old ≡ length bytes.now }
+    ensures { part.new ≡ inverted bytes.now }
+{
+    part.copy_from_slice(bytes);
+    for byte in part.iter_mut() {
+        *byte = u8::MAX - *byte;
+    }
+}
+
+/// Puts bytes at a place, and zeros into a gap before it, in the room that is there.
+fn overwrite(target: &mut Vec<u8>, at: usize, bytes: &[u8])
+    requires { max (vec_len target.old) (at + length bytes.now) ≤ vec_capacity target.old }
+    ensures content { target.new.items ≡ overwritten at bytes.now target.old.items }
+    ensures room { vec_capacity target.old ≤ vec_capacity target.new }
+{
+    let end = at + bytes.len();
+    if target.len() < end {
+        target.resize(end, 0).unwrap();
+    }
+    target.as_mut_slice()[at..end].copy_from_slice(bytes);
+}
+
+/// Puts inverted bytes at a place, as `overwrite` puts the bytes.
+fn overwrite_inverted(target: &mut Vec<u8>, at: usize, bytes: &[u8])
+    requires { max (vec_len target.old) (at + length bytes.now) ≤ vec_capacity target.old }
+    ensures content { target.new.items ≡ overwritten at (inverted bytes.now) target.old.items }
+    ensures room { vec_capacity target.old ≤ vec_capacity target.new }
+{
+    let end = at + bytes.len();
+    if target.len() < end {
+        target.resize(end, 0).unwrap();
+    }
+    copy_inverted(&mut target.as_mut_slice()[at..end], bytes);
+}
+
+/// Writes changes over bytes, in the room that is there.
+fn replay(target: &mut Vec<u8>, changes: &[Change])
+    requires { length (overlay target.old.items changes.now) ≤ vec_capacity target.old }
+    ensures content { target.new.items ≡ overlay target.old.items changes.now }
+    ensures room { vec_capacity target.old ≤ vec_capacity target.new }
+{
+    for change in changes {
+        if let Change::Write(at, bytes) = change {
+            overwrite(target, *at, bytes.as_slice());
+        }
+    }
+}
+
+/// Writes changes over bytes with each written byte inverted, in the room that is there.
+fn replay_inverted(target: &mut Vec<u8>, changes: &[Change])
+    requires { length (overlay_inverted target.old.items changes.now) ≤ vec_capacity target.old }
+    ensures content { target.new.items ≡ overlay_inverted target.old.items changes.now }
+    ensures room { vec_capacity target.old ≤ vec_capacity target.new }
+{
+    for change in changes {
+        if let Change::Write(at, bytes) = change {
+            overwrite_inverted(target, *at, bytes.as_slice());
+        }
+    }
+}
+
+/// How many changes lead up to the last sync and through it.
+fn settled_changes(changes: &[Change]) -> usize
+    ensures within { result ≤ length changes.now }
+    ensures settled { Settles (take result changes.now) }
+    ensures pending { AllWrites (drop result changes.now) }
+{
+    let mut count = changes.len();
+    while count > 0 {
+        if let Change::Sync = changes[count - 1] {
+            break;
+        }
+        count -= 1;
+    }
+    count
+}
+
+/// A disk in memory that tells its content and fails and crashes on demand.
+///
+/// It keeps each change that it went through, so that what a crash at an earlier moment might have left is known.
+#[derive(Debug, Drop)]
+pub struct MemDisk {
+    alloc: Global,
+    /// The content at first, with room for what is written later.
+    first: Vec<u8>,
+    changes: Vec<Change>,
+    bytes: Vec<u8>,
+    failing: Vec<u32>,
+    asked: u64,
+    counts: Counts,
+    ghost shows: { bytes.items ≡ content_of (replayed (fresh first.items) changes.items) },
+    ghost room: { vec_len bytes ≤ vec_capacity first },
+}
+
+impl MemDisk {
+    ghost use Rattle.disk_trait.specs.MemDisk.{content, standing, failing_calls, calls};
+
+    /// An empty disk of which the calls with these numbers, from 1, fail.
+    pub fn new(alloc: Global, failing: &[u32]) -> Result<MemDisk, Memory>
+        ensures empty { IfOk result (λ disk. content disk ≡ []) }
+        ensures settled { IfOk result (λ disk. LeavesOnly [] (IsImage (standing disk))) }
+        ensures failing { IfOk result (λ disk. failing_calls disk ≡ failing.now) }
+        ensures unasked { IfOk result (λ disk. calls disk ≡ 0) }
+    {
+        Ok(MemDisk::with_failing(alloc, failing.to_vec(alloc)?))
+    }
+
+    /// An empty disk of which no call fails.
+    pub fn honest(alloc: Global) -> MemDisk
+        ensures empty { content result ≡ [] }
+        ensures settled { LeavesOnly [] (IsImage (standing result)) }
+        ensures honest { failing_calls result ≡ [] }
+    {
+        MemDisk::with_failing(alloc, Vec::new(alloc))
+    }
+
+    fn with_failing(alloc: Global, failing: Vec<u32>) -> MemDisk
+        ensures empty { result.bytes.items ≡ [] }
+        ensures unchanged { result.changes.items ≡ [] }
+        ensures first { result.first.items ≡ [] }
+        ensures failing { result.failing.items ≡ failing.items }
+        ensures unasked { result.asked ≡ 0 }
+    {
+        MemDisk {
+            alloc,
+            first: Vec::new(alloc),
+            changes: Vec::new(alloc),
+            bytes: Vec::new(alloc),
+            failing,
+            asked: 0,
+            counts: Counts::NONE,
+        }
+    }
+
+    /// What a read gives.
+    pub fn bytes(&self) -> &[u8]
+        ensures { result.now ≡ content self.now }
+    {
+        &self.bytes
+    }
+
+    /// Counts a call, and a failure where this call is one of those that are to fail.
+    fn begin(&mut self) -> Result<(), DiskError>
+        ensures ok { OnOk result (self.new ≡ record self.old { asked = min (self.old.asked + 1) greatest_count }) }
+        ensures err { OnErr result ((IsRaised self.old.counts.faults self.new.counts.faults) × (self.new ≡ record self.old { asked = min (self.old.asked + 1) greatest_count; counts = record { faults = self.new.counts.faults; wants = self.old.counts.wants } })) }
+        ensures due { is_ok result ≡ not (list_any (λ number. number == min (self.old.asked + 1) greatest_count) self.old.failing.items) }
+        ensures failed { IfErr result (λ error. error ≡ Failed) }
+    {
+        self.asked = self.asked.saturating_add(1);
+        if is_due(&self.failing, self.asked) {
+            self.counts.add_fault();
+            return Err(DiskError::Failed);
+        }
+        Ok(())
+    }
+
+    /// Writes at a place, in memory that it takes first.
+    fn put(&mut self, at: u64, bytes: &[u8]) -> Result<(), Memory>
+        ensures bytes { OnOk result (self.new.bytes.items ≡ overwritten at bytes.now self.old.bytes.items) }
+        ensures change { OnOk result (self.new.changes.items ≡ self.old.changes.items ++ Write at bytes.now ∷ []) }
+        ensures first { self.new.first.items ≡ self.old.first.items }
+        ensures err { OnErr result ((self.new.bytes.items ≡ self.old.bytes.items) × (self.new.changes.items ≡ self.old.changes.items)) }
+        ensures failing { self.new.failing.items ≡ self.old.failing.items }
+        ensures counts { self.new.counts ≡ self.old.counts }
+        ensures asked { self.new.asked ≡ self.old.asked }
+    {
+        let at = usize::try_from(at).map_err(|_| AllocError)?;
+        let end = at.checked_add(bytes.len()).ok_or(AllocError)?;
+        let part = Bytes::copy_of(self.alloc, bytes)?;
+        grow(&mut self.first, end.max(self.bytes.len()))?;
+        grow(&mut self.bytes, end)?;
+        self.changes.push(Change::Write(at, part))?;
+        overwrite(&mut self.bytes, at, bytes);
+        Ok(())
+    }
+
+    /// Puts one image of a crash in place: with 0 no pending write is kept, with 1 all are, with 2 all with each byte
+    /// inverted. After it nothing is pending.
+    pub fn crash(&mut self, image: u8)
+        requires { image ≤ 2 }
+        ensures content { content self.new ≡ crash_image image (standing self.old) }
+        ensures settled { standing self.new ≡ fresh (content self.new) }
+        ensures failing { failing_calls self.new ≡ failing_calls self.old }
+        ensures asked { calls self.new ≡ calls self.old }
+    {
+        crash_through(&mut self.first, &self.changes, image);
+        self.changes.clear();
+        refill(&mut self.bytes, &self.first);
+    }
+
+    /// Settles what is pending.
+    fn settle(&mut self) -> Result<(), Memory>
+        ensures change { OnOk result (self.new.changes.items ≡ self.old.changes.items ++ Sync ∷ []) }
+        ensures err { OnErr result (self.new.changes.items ≡ self.old.changes.items) }
+        ensures first { self.new.first.items ≡ self.old.first.items }
+        ensures bytes { self.new.bytes.items ≡ self.old.bytes.items }
+        ensures failing { self.new.failing.items ≡ self.old.failing.items }
+        ensures counts { self.new.counts ≡ self.old.counts }
+        ensures asked { self.new.asked ≡ self.old.asked }
+    {
+        self.changes.push(Change::Sync)?;
+        Ok(())
+    }
+}
+
+/// Puts the image of a crash after these changes in the place of the content before them, in the room that is there.
+fn crash_through(first: &mut Vec<u8>, changes: &[Change], image: u8)
+    requires { length (overlay first.old.items changes.now) ≤ vec_capacity first.old }
+    ensures content { first.new.items ≡ crash_image image (replayed (fresh first.old.items) changes.now) }
+    ensures length { vec_len first.new ≤ length (overlay first.old.items changes.now) }
+    ensures room { vec_capacity first.old ≤ vec_capacity first.new }
+{
+    let (kept, pending) = changes.split_at(settled_changes(changes));
+    replay(first, kept);
+    match image {
+        0 => {}
+        1 => replay(first, pending),
+        _ => replay_inverted(first, pending),
+    }
+}
+
+/// Puts bytes in the place of those that are there, in the room that is there.
+fn refill(target: &mut Vec<u8>, bytes: &[u8])
+    requires { length bytes.now ≤ vec_capacity target.old }
+    ensures { target.new.items ≡ bytes.now }
+{
+    target.clear();
+    target.extend_from_slice(bytes).unwrap();
+}
+
+/// Makes room for a length.
+fn grow(target: &mut Vec<u8>, length: usize) -> Result<(), Memory>
+    ensures items { target.new.items ≡ target.old.items }
+    ensures length { vec_len target.new ≡ vec_len target.old }
+    ensures room { OnOk result (length ≤ vec_capacity target.new) }
+    ensures capacity { vec_capacity target.old ≤ vec_capacity target.new }
+{
+    target.reserve(length.saturating_sub(target.len()))
+}
+
+impl Disk for MemDisk {
+    ghost told = { Unit {0} };
+
+    ghost content = { λ disk. disk.bytes.items };
+
+    ghost image = { λ disk. IsImage (replayed (fresh disk.first.items) disk.changes.items) };
+
+    ghost clock = { λ disk. length disk.changes.items };
+
+    ghost image_since = { λ disk. IsImageSince disk.first.items disk.changes.items };
+
+    ghost counts = { λ disk. disk.counts };
+
+    ghost follows = { λ disk later. SameFate disk.failing.items later.failing.items disk.counts.faults later.counts.faults };
+
+    ghost content_is_image = { λ disk told. content_image disk.first.items disk.bytes.items disk.changes.items disk.shows };
+
+    ghost counts_now = { λ disk from c told early image. image_now disk.first.items disk.changes.items from c early image };
+
+    ghost only_now = { λ disk c told since. only_image_now disk.first.items disk.changes.items c since };
+
+    ghost follows_itself = { λ disk. same_fate disk.failing.items disk.counts.faults };
+
+    ghost follows_on = { λ first second third early late. same_fate_on first.failing.items second.failing.items third.failing.items first.counts.faults second.counts.faults third.counts.faults early late };
+
+    fn len(&mut self) -> Result<u64, DiskError> {
+        self.begin()?;
+        Ok(self.bytes.len() as u64)
+    }
+
+    fn read(&mut self, at: u64, into: &mut [u8]) -> Result<usize, DiskError> {
+        self.begin()?;
+        Ok(copy_part(&self.bytes, at, into))
+    }
+
+    fn write_at(&mut self, at: u64, bytes: &[u8]) -> Result<(), DiskError> {
+        self.begin()?;
+        match self.put(at, bytes) {
+            Ok(()) => Ok(()),
+            Err(_) => {
+                self.counts.add_want();
+                Err(DiskError::Memory)
+            }
+        }
+    }
+
+    fn sync(&mut self) -> Result<(), DiskError> {
+        self.begin()?;
+        match self.settle() {
+            Ok(()) => Ok(()),
+            Err(_) => {
+                self.counts.add_want();
+                Err(DiskError::Memory)
+            }
+        }
+    }
+}
+
+/// Copies the bytes from a place on into a buffer, and answers how many there were.
+fn copy_part(bytes: &[u8], at: u64, into: &mut [u8]) -> usize
+    ensures within { result ≤ length into.old }
+    ensures part { ReadsPart bytes.now at result into.old into.new }
+{
+    let start = usize::try_from(at).unwrap_or(usize::MAX).min(bytes.len());
+    let count = into.len().min(bytes.len() - start);
+    into[..count].copy_from_slice(&bytes[start..start + count]);
+    count
+}
