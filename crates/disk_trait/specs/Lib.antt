@@ -2,4 +2,5 @@ pub mod Disk
 pub mod File
 pub mod Images
 pub mod MemDisk
+pub mod Moments
 pub mod Replay
