@@ -6,3 +6,4 @@ pub mod MemPost
 pub mod MemEntropy
 pub mod MemSink
 pub mod Plans
+pub mod Machine

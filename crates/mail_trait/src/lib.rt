@@ -3,21 +3,29 @@
 #![tactic(auto)]
 
 mod calls;
+mod device_entropy;
+mod dir_post;
 mod entropy;
 mod error;
+mod folder;
 mod listing;
 mod mem_entropy;
 mod mem_files;
 mod mem_post;
 mod mem_sink;
+mod out_sink;
 mod post;
 mod sink;
+mod streams;
 
+pub use device_entropy::DeviceEntropy;
+pub use dir_post::DirPost;
 pub use entropy::Entropy;
 pub use error::MailError;
 pub use listing::{Entry, Listing};
 pub use mem_entropy::MemEntropy;
 pub use mem_post::MemPost;
 pub use mem_sink::MemSink;
+pub use out_sink::OutSink;
 pub use post::Post;
 pub use sink::Sink;
