@@ -17,6 +17,8 @@ mod out_sink;
 mod post;
 mod sink;
 mod streams;
+#[cfg(test)]
+mod tests;
 
 pub use device_entropy::DeviceEntropy;
 pub use dir_post::DirPost;

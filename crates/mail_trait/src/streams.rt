@@ -1,4 +1,5 @@
-ghost use Rattle.std.specs.Prelude.{◌≡◌, ◌≤◌, IfOk, vec_len};
+ghost use Rattle.std.specs.Prelude.{◌≡◌, ◌≤◌, IfOk, IfSome, OnOk, take, vec_len};
+ghost use Rattle.std.specs.Io.KnownBytes.{Consumes, Appends};
 ghost use Rattle.group_fields.specs.Cause.{HasCause};
 ghost use Rattle.mail_trait.specs.declared.error.MailError.TheVariants.{Failed, Memory};
 
@@ -35,6 +36,9 @@ pub(crate) fn read_at_most<R: Read>(
     limit: u32,
 ) -> Result<Vec<u8>, MailError>
     ensures within { IfOk result (λ bytes. vec_len bytes ≤ limit) }
+
+    // of a reader that tells what it has left
+    ensures bytes { IfOk result (λ bytes. IfSome (R.remaining reader.old) (λ all. bytes.items ≡ take limit all)) }
 {
     let mut bytes = Vec::new(alloc);
     let mut block = [0; BLOCK];
@@ -51,7 +55,9 @@ pub(crate) fn read_at_most<R: Read>(
 }
 
 /// Fills the whole buffer. It is a fault where the reader ends before.
-pub(crate) fn fill<R: Read>(reader: &mut R, into: &mut [u8]) -> Result<(), MailError> {
+pub(crate) fn fill<R: Read>(reader: &mut R, into: &mut [u8]) -> Result<(), MailError>
+    ensures { OnOk result (Consumes (R.remaining reader.old) (R.remaining reader.new) into.new) }
+{
     let mut filled = 0;
     for _ in 0..u64::MAX {
         if filled == into.len() {
@@ -68,7 +74,9 @@ pub(crate) fn fill<R: Read>(reader: &mut R, into: &mut [u8]) -> Result<(), MailE
 }
 
 /// Writes all the bytes. It is a fault where the writer takes none.
-pub(crate) fn write_out<W: Write>(writer: &mut W, bytes: &[u8]) -> Result<(), MailError> {
+pub(crate) fn write_out<W: Write>(writer: &mut W, bytes: &[u8]) -> Result<(), MailError>
+    ensures { OnOk result (Appends (W.contents writer.old) (W.contents writer.new) bytes.now) }
+{
     let mut rest = bytes;
     for _ in 0..u64::MAX {
         if rest.is_empty() {

@@ -1,0 +1,294 @@
+use crate::streams::{fill, read_at_most, write_out};
+use crate::{
+    DeviceEntropy, DirPost, Entropy, Listing, MailError, MemEntropy, MemPost, MemSink, OutSink,
+    Post, Sink,
+};
+use group_fields::{Bytes, Text};
+use std::alloc::{AllocError, Global};
+use std::io::{ErrorKind, Read, Write};
+use std::process::Abort;
+use std::test::Fail;
+use std::{fs, io};
+
+/// The rows as text, each as its name and its length.
+fn shown(alloc: Global, listing: &Listing) -> Result<String, AllocError> {
+    let mut text = String::new(alloc);
+    for row in listing.as_slice() {
+        let length = row.length;
+        text.push_str(row.name.as_str())?;
+        text.push_str(format!(in alloc; "={length};")?.as_str())?;
+    }
+    Ok(text)
+}
+
+/// What a read found, or `-` where it found nothing.
+fn found_or_dash(found: &Option<Bytes>) -> &[u8] {
+    match found {
+        Some(bytes) => bytes.as_slice(),
+        None => b"-",
+    }
+}
+
+/// Puts two files out of order, one of them twice, and answers how many names are listed then.
+fn fill_post<P: Post>(post: &mut P) -> Result<usize, MailError> {
+    post.put("b", b"old")?;
+    post.put("a", b"first")?;
+    post.put("b", b"second one")?;
+    Ok(post.list()?.len())
+}
+
+fn check_reads<P: Post>(rt: &impl Abort, post: &mut P) -> Result<(), MailError> {
+    let cases = [
+        ("a", 5, "first"),
+        ("a", 0, ""),
+        ("b", 6, "second"),
+        ("b", u32::MAX, "second one"),
+        ("c", 10, "-"),
+        ("", 10, "-"),
+    ];
+    for (name, limit, want) in cases {
+        let found = post.read(name, limit)?;
+        assert_eq!(rt;
+            found_or_dash(&found),
+            want.as_bytes(),
+            "{name} up to {limit}"
+        );
+    }
+    Ok(())
+}
+
+#[test]
+fn mem_post_keeps_files(rt: HostRuntime) -> Result<(), Fail> {
+    let mut post = MemPost::honest(rt.alloc());
+    assert_eq!(rt; post.list()?.is_empty(), true);
+    assert_eq!(rt; fill_post(&mut post)?, 2);
+    check_reads(&rt, &mut post)?;
+    assert_eq!(rt; shown(rt.alloc(), &post.list()?)?.as_str(), "a=5;b=10;");
+    Ok(())
+}
+
+#[test]
+fn planned_calls_of_a_post_fail(rt: HostRuntime) -> Result<(), Fail> {
+    // calls: put, list, read, put, and one to look
+    let wants = ["b=1;", "a=1;b=1;", "a=1;b=1;", "a=1;", "-"];
+    let mut number = 0;
+    for want in wants {
+        number += 1;
+        let mut post = MemPost::new(rt.alloc(), &[number])?;
+        let calls = [
+            post.put("a", b"x").is_err(),
+            post.list().is_err(),
+            post.read("a", 1).is_err(),
+            post.put("b", b"y").is_err(),
+        ];
+        let mut call = 0;
+        for failed in calls {
+            call += 1;
+            assert_eq!(rt; failed, call == number, "call {call} of plan {number}");
+        }
+        let left = match post.list() {
+            Ok(listing) => shown(rt.alloc(), &listing)?,
+            Err(error) => {
+                assert_eq!(rt; error, MailError::Failed);
+                String::from_str(rt.alloc(), "-")?
+            }
+        };
+        assert_eq!(rt; left.as_str(), want, "plan {number}");
+    }
+    Ok(())
+}
+
+#[test]
+fn mem_entropy_gives_seeds_in_order(rt: HostRuntime) -> Result<(), Fail> {
+    let mut source = MemEntropy::new(rt.alloc(), &[[1; 32], [2; 32]], &[2])?;
+    let mut seed = [0; 32];
+    // call 2 is to fail, and call 4 comes after the last seed
+    for (answer, byte) in [
+        (Ok(()), 1),
+        (Err(MailError::Failed), 1),
+        (Ok(()), 2),
+        (Err(MailError::Failed), 2),
+    ] {
+        assert_eq!(rt; source.seed32(&mut seed), answer);
+        assert_eq!(rt; seed, [byte; 32]);
+    }
+    Ok(())
+}
+
+#[test]
+fn mem_sink_appends(rt: HostRuntime) -> Result<(), Fail> {
+    let mut sink = MemSink::new(rt.alloc(), &[2])?;
+    let cases = [
+        ("one ", Ok(()), "one "),
+        ("two ", Err(MailError::Failed), "one "),
+        ("three", Ok(()), "one three"),
+        ("", Ok(()), "one three"),
+    ];
+    for (part, answer, want) in cases {
+        assert_eq!(rt; sink.write(part.as_bytes()), answer);
+        assert_eq!(rt; sink.bytes(), want.as_bytes());
+    }
+    assert_eq!(rt; MemSink::honest(rt.alloc()).bytes().is_empty(), true);
+    Ok(())
+}
+
+/// Reads and writes one byte at a time from a piece of text. Every third call is interrupted, and the call of the
+/// number `fails` fails, from 1.
+#[derive(Drop)]
+struct Slow {
+    bytes: Vec<u8>,
+    at: usize,
+    calls: u32,
+    fails: u32,
+}
+
+impl Slow {
+    fn new(alloc: Global, bytes: &[u8], fails: u32) -> Result<Slow, AllocError> {
+        Ok(Slow {
+            bytes: bytes.to_vec(alloc)?,
+            at: 0,
+            calls: 0,
+            fails,
+        })
+    }
+
+    fn begin(&mut self) -> io::Result<()> {
+        self.calls = self.calls.saturating_add(1);
+        if self.calls == self.fails {
+            return Err(io::Error::from(ErrorKind::BrokenPipe));
+        }
+        if self.calls % 3 == 0 {
+            return Err(io::Error::from(ErrorKind::Interrupted));
+        }
+        Ok(())
+    }
+}
+
+impl Read for Slow {
+    fn read(&mut self, buf: &mut [u8]) -> io::Result<usize> {
+        self.begin()?;
+        match (self.bytes.get(self.at), buf.first_mut()) {
+            (Some(byte), Some(place)) => {
+                *place = *byte;
+                self.at += 1;
+                Ok(1)
+            }
+            _ => Ok(0),
+        }
+    }
+}
+
+impl Write for Slow {
+    fn write(&mut self, buf: &[u8]) -> io::Result<usize> {
+        self.begin()?;
+        match buf.first() {
+            Some(byte) => {
+                self.bytes.push(*byte)?;
+                Ok(1)
+            }
+            None => Ok(0),
+        }
+    }
+
+    fn flush(&mut self) -> io::Result<()> {
+        Ok(())
+    }
+}
+
+#[test]
+fn streams_go_on_after_short_calls(rt: HostRuntime) -> Result<(), Fail> {
+    let alloc = rt.alloc();
+    for (limit, want) in [(3, "abc"), (5, "abcde"), (9, "abcde"), (0, "")] {
+        let read = read_at_most(alloc, &mut Slow::new(alloc, b"abcde", 0)?, limit)?;
+        assert_eq!(rt; read.as_slice(), want.as_bytes());
+    }
+    let mut into = [0; 4];
+    fill(&mut Slow::new(alloc, b"abcde", 0)?, &mut into)?;
+    assert_eq!(rt; into, *b"abcd");
+    let mut writer = Slow::new(alloc, b"", 0)?;
+    write_out(&mut writer, b"abcde")?;
+    assert_eq!(rt; writer.bytes.as_slice(), b"abcde".as_slice());
+    Ok(())
+}
+
+#[test]
+fn streams_fail_in_the_middle(rt: HostRuntime) -> Result<(), Fail> {
+    let alloc = rt.alloc();
+    for fails in [1, 2, 4] {
+        let mut slow = Slow::new(alloc, b"abcde", fails)?;
+        assert_eq!(rt; read_at_most(alloc, &mut slow, 9).is_err(), true);
+        let mut into = [0; 4];
+        let mut slow = Slow::new(alloc, b"abcde", fails)?;
+        assert_eq!(rt; fill(&mut slow, &mut into), Err(MailError::Failed));
+        let mut slow = Slow::new(alloc, b"", fails)?;
+        assert_eq!(rt; write_out(&mut slow, b"abcde"), Err(MailError::Failed));
+    }
+    let mut into = [0; 6];
+    let mut short = Slow::new(alloc, b"abcde", 0)?;
+    assert_eq!(rt; fill(&mut short, &mut into), Err(MailError::Failed));
+    Ok(())
+}
+
+#[test]
+fn dir_post_is_a_folder(rt: HostRuntime) -> Result<(), Fail> {
+    let folder = "dir_post_test";
+    let _ = fs::remove_dir_all(&rt, folder);
+    let mut post = DirPost::new(&rt, Text::copy_of(rt.alloc(), folder)?);
+    assert_eq!(rt; post.list().is_err(), true, "no folder to list");
+    assert_eq!(rt; post.read("a", 1).is_err(), true, "no folder to read in");
+    assert_eq!(rt;
+        post.put("a", b""),
+        Err(MailError::Failed),
+        "no folder to put in"
+    );
+    fs::create_dir(&rt, folder)?;
+    assert_eq!(rt; fill_post(&mut post)?, 2);
+    fs::create_dir(&rt, "dir_post_test/sub")?;
+    fs::write(&rt, "dir_post_test/.unfinished-0", "half")?;
+    check_reads(&rt, &mut post)?;
+    assert_eq!(rt; post.read("sub", 1).is_err(), true, "a folder is no file");
+    assert_eq!(rt;
+        post.put("sub", b"x"),
+        Err(MailError::Failed),
+        "a folder is not replaced"
+    );
+    assert_eq!(rt;
+        post.put("sub/x", b"x"),
+        Err(MailError::Failed),
+        "a name has no slash"
+    );
+    assert_eq!(rt;
+        post.put(".unfinished-1", b"x"),
+        Err(MailError::Failed),
+        "a temporary name"
+    );
+    post.put("0", b"")?;
+    assert_eq!(rt; shown(rt.alloc(), &post.list()?)?.as_str(), "0=0;a=5;b=10;");
+    assert_eq!(rt;
+        fs::read_dir(&rt, folder)?.count(),
+        5,
+        "nothing but the files, the folder and the half"
+    );
+    fs::remove_dir_all(&rt, folder)?;
+    Ok(())
+}
+
+#[test]
+fn device_entropy_draws(rt: HostRuntime) -> Result<(), Fail> {
+    let mut source = DeviceEntropy::new(&rt);
+    let mut first = [0; 32];
+    let mut second = [0; 32];
+    source.seed32(&mut first)?;
+    source.seed32(&mut second)?;
+    assert_ne!(rt; first, [0; 32]);
+    assert_ne!(rt; first, second);
+    Ok(())
+}
+
+#[test]
+fn out_sink_writes(rt: HostRuntime) -> Result<(), Fail> {
+    let mut sink = OutSink::new(&rt);
+    sink.write(b"")?;
+    sink.write(b"written by out_sink\n")?;
+    Ok(())
+}
