@@ -1,8 +1,8 @@
 -- The finite map of a folder in memory, by the entries of its tree.
-use Rattle.std.proofs.Common.{◌≡◌, ◌≢◌, ◌∙◌, ℕ, List, [], ◌∷◌, Option, Some, None, Bool, true, false, cond, length, map, refl, sym, ap, subst, arith, String, Vec, string_bytes, take, min}
+use Rattle.std.proofs.Common.{◌≡◌, ◌≢◌, ◌∙◌, ℕ, List, [], ◌∷◌, Some, Bool, true, false, cond, length, map, refl, sym, ap, arith, String, Vec, string_bytes, take, min}
 use Rattle.std.specs.declared.cmp.Ordering.{Ordering}
 use Rattle.std.specs.declared.cmp.Ordering.TheVariants.{Less, Equal, Greater}
-use Rattle.std.specs.Ordering.{nat_cmp, is_eq, eq_by_cmp, match_ordering}
+use Rattle.std.specs.Ordering.{nat_cmp, is_eq, eq_by_cmp}
 use Rattle.std.specs.Cmp.Lexicographic.{slice_cmp, nat_list_cmp_total}
 use Rattle.std.specs.String.{string_cmp}
 use Rattle.std.specs.List.{AllByRecursion}
@@ -10,7 +10,7 @@ use Rattle.std.specs.List.Sorted.{IsStrictlySortedBy}
 use Rattle.std.specs.Map.{keys_of, lookup}
 use Rattle.std.specs.BTreeMap.{BTreeMap, IsOrdered, insert_entry, is_at, get_by}
 use Rattle.std.specs.Option.{option_map}
-use Rattle.std.specs.FinMap.{FinMap, entries, empty, insert, get, find, put, from_entries, entries-insert, len-empty, len-entries, same_entries_map, get-from_entries, get-insert}
+use Rattle.std.specs.FinMap.{entries, empty, insert, get, find, put, from_entries, entries-insert, len-empty, len-entries, same_entries_map, get-from_entries, get-insert}
 use Rattle.std.proofs.lemmas.List.{take_min}
 use Rattle.std.proofs.lemmas.Map.Lookups.{exact_bytes}
 use Rattle.mail_trait.specs.Files.{named, files_of}

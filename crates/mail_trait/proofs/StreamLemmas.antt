@@ -1,5 +1,5 @@
 -- What several reads and writes in a row do to bytes that are known.
-use Rattle.std.proofs.Common.{◌≡◌, ◌∙◌, ◌+◌, ◌-◌, ◌≤◌, ℕ, List, [], ◌++◌, Option, Some, None, length, take, refl, sym, ap, subst, arith, append_assoc, append-nil, drop_at, length-take-le, take-add, take-append-drop, drop}
+use Rattle.std.proofs.Common.{◌≡◌, ◌∙◌, ◌+◌, ◌-◌, ◌≤◌, ℕ, List, [], ◌++◌, Option, Some, None, length, take, refl, sym, ap, append_assoc, append-nil, drop_at, length-take-le, take-add, take-append-drop, drop}
 use Rattle.std.proofs.lemmas.List.{take-append-le, take_at, take_rest}
 use Rattle.std.specs.Io.KnownBytes.{Consumes, Appends, Keeps}
 use borrow.Rule.Slice.PartMut.{put_mid, post_of}

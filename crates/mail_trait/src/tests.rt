@@ -5,7 +5,7 @@ use crate::{
 };
 use group_fields::{Bytes, Text};
 use std::alloc::{AllocError, Global};
-use std::io::{ErrorKind, Read, Write};
+use std::io::Read;
 use std::process::Abort;
 use std::test::Fail;
 use std::{fs, io};
@@ -132,100 +132,28 @@ fn mem_sink_appends(rt: HostRuntime) -> Result<(), Fail> {
     Ok(())
 }
 
-/// Reads and writes one byte at a time from a piece of text. Every third call is interrupted, and the call of the
-/// number `fails` fails, from 1.
-#[derive(Drop)]
-struct Slow {
-    bytes: Vec<u8>,
-    at: usize,
-    calls: u32,
-    fails: u32,
-}
-
-impl Slow {
-    fn new(alloc: Global, bytes: &[u8], fails: u32) -> Result<Slow, AllocError> {
-        Ok(Slow {
-            bytes: bytes.to_vec(alloc)?,
-            at: 0,
-            calls: 0,
-            fails,
-        })
-    }
-
-    fn begin(&mut self) -> io::Result<()> {
-        self.calls = self.calls.saturating_add(1);
-        if self.calls == self.fails {
-            return Err(io::Error::from(ErrorKind::BrokenPipe));
-        }
-        if self.calls % 3 == 0 {
-            return Err(io::Error::from(ErrorKind::Interrupted));
-        }
-        Ok(())
-    }
-}
-
-impl Read for Slow {
-    fn read(&mut self, buf: &mut [u8]) -> io::Result<usize> {
-        self.begin()?;
-        match (self.bytes.get(self.at), buf.first_mut()) {
-            (Some(byte), Some(place)) => {
-                *place = *byte;
-                self.at += 1;
-                Ok(1)
-            }
-            _ => Ok(0),
-        }
-    }
-}
-
-impl Write for Slow {
-    fn write(&mut self, buf: &[u8]) -> io::Result<usize> {
-        self.begin()?;
-        match buf.first() {
-            Some(byte) => {
-                self.bytes.push(*byte)?;
-                Ok(1)
-            }
-            None => Ok(0),
-        }
-    }
-
-    fn flush(&mut self) -> io::Result<()> {
-        Ok(())
-    }
-}
-
 #[test]
 fn streams_go_on_after_short_calls(rt: HostRuntime) -> Result<(), Fail> {
     let alloc = rt.alloc();
-    for (limit, want) in [(3, "abc"), (5, "abcde"), (9, "abcde"), (0, "")] {
-        let read = read_at_most(alloc, &mut Slow::new(alloc, b"abcde", 0)?, limit)?;
+    for (limit, want) in [(0, ""), (1, "a"), (4, "abcd"), (9, "abcde")] {
+        let mut parts = b"ab".as_slice().chain(b"cde".as_slice());
+        let read = read_at_most(alloc, &mut parts, limit)?;
         assert_eq!(rt; read.as_slice(), want.as_bytes());
     }
     let mut into = [0; 4];
-    fill(&mut Slow::new(alloc, b"abcde", 0)?, &mut into)?;
+    fill(&mut b"ab".as_slice().chain(b"cde".as_slice()), &mut into)?;
     assert_eq!(rt; into, *b"abcd");
-    let mut writer = Slow::new(alloc, b"", 0)?;
-    write_out(&mut writer, b"abcde")?;
-    assert_eq!(rt; writer.bytes.as_slice(), b"abcde".as_slice());
-    Ok(())
-}
-
-#[test]
-fn streams_fail_in_the_middle(rt: HostRuntime) -> Result<(), Fail> {
-    let alloc = rt.alloc();
-    for fails in [1, 2, 4] {
-        let mut slow = Slow::new(alloc, b"abcde", fails)?;
-        assert_eq!(rt; read_at_most(alloc, &mut slow, 9).is_err(), true);
-        let mut into = [0; 4];
-        let mut slow = Slow::new(alloc, b"abcde", fails)?;
-        assert_eq!(rt; fill(&mut slow, &mut into), Err(MailError::Failed));
-        let mut slow = Slow::new(alloc, b"", fails)?;
-        assert_eq!(rt; write_out(&mut slow, b"abcde"), Err(MailError::Failed));
-    }
-    let mut into = [0; 6];
-    let mut short = Slow::new(alloc, b"abcde", 0)?;
-    assert_eq!(rt; fill(&mut short, &mut into), Err(MailError::Failed));
+    let mut too_much = [0; 6];
+    let ended = fill(&mut b"abcde".as_slice(), &mut too_much);
+    assert_eq!(rt; ended, Err(MailError::Failed));
+    let mut written = Vec::new(alloc);
+    write_out(&mut written, b"abcde")?;
+    assert_eq!(rt; written.as_slice(), b"abcde".as_slice());
+    // a slice takes as many bytes as it has room for, and then none
+    let mut room = [0; 3];
+    let full = write_out(&mut room.as_mut_slice(), b"abcde");
+    assert_eq!(rt; full, Err(MailError::Failed));
+    assert_eq!(rt; room, *b"abc");
     Ok(())
 }
 

@@ -1,4 +1,4 @@
-use Rattle.std.proofs.Common.{rules, ◌≡◌, ◌∙◌, ◌≤◌, length, take, sym, ap, refl, arith, OnOk, OnErr, IfOk, IfSome, ℕ, map, List, [], ◌∷◌, ◌++◌, Bor}
+use Rattle.std.proofs.Common.{◌∙◌, sym, ap, map, ◌++◌}
 use Rattle.std.proofs.lemmas.List.{append-nil}
 use Rattle.mail_trait.specs.Files.{named}
 use Rattle.mail_trait.specs.Post.{row_of}

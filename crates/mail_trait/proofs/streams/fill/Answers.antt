@@ -1,4 +1,4 @@
-use Rattle.std.proofs.Common.{◌≡◌, ◌≤◌, length, ◌-◌, sym, subst, rules, arith, le_refl}
+use Rattle.std.proofs.Common.{◌≡◌, length, ◌-◌, sym, subst, rules, arith}
 use borrow.Rule.Slice.PartMut.{put_mid}
 use Rattle.std.specs.Io.KnownBytes.{Consumes}
 use Rattle.mail_trait.proofs.StreamLemmas.{consumes-on, consumes-kept, take-filled, take-unfilled}
