@@ -70,20 +70,22 @@ fn mem_post_keeps_files(rt: HostRuntime) -> Result<(), Fail> {
 #[test]
 fn planned_calls_of_a_post_fail(rt: HostRuntime) -> Result<(), Fail> {
     // calls: put, list, read, put, and one to look
-    let wants = ["b=1;", "a=1;b=1;", "a=1;b=1;", "a=1;", "-"];
-    let mut number = 0;
-    for want in wants {
-        number += 1;
+    let wants = [
+        (1, "b=1;"),
+        (2, "a=1;b=1;"),
+        (3, "a=1;b=1;"),
+        (4, "a=1;"),
+        (5, "-"),
+    ];
+    for (number, want) in wants {
         let mut post = MemPost::new(rt.alloc(), &[number])?;
         let calls = [
-            post.put("a", b"x").is_err(),
-            post.list().is_err(),
-            post.read("a", 1).is_err(),
-            post.put("b", b"y").is_err(),
+            (1, post.put("a", b"x").is_err()),
+            (2, post.list().is_err()),
+            (3, post.read("a", 1).is_err()),
+            (4, post.put("b", b"y").is_err()),
         ];
-        let mut call = 0;
-        for failed in calls {
-            call += 1;
+        for (call, failed) in calls {
             assert_eq!(rt; failed, call == number, "call {call} of plan {number}");
         }
         let left = match post.list() {
