@@ -1,0 +1,9 @@
+pub mod Post
+pub mod Sink
+pub mod Calls
+pub mod Files
+pub mod MemPost
+pub mod MemEntropy
+pub mod MemSink
+pub mod Plans
+pub mod Machine

@@ -1,0 +1,26 @@
+-- What a mail folder in memory shows.
+use Rattle.std.specs.Prelude.{ℕ, List}
+use Rattle.group_fields.specs.declared.counts.Counts.{Counts}
+use Rattle.mail_trait.specs.Calls.{KeepsPlan}
+use Rattle.mail_trait.specs.Files.{files_of}
+use Rattle.mail_trait.specs.Post.{Files}
+use Rattle.mail_trait.specs.declared.mem_post.MemPost.{MemPost}
+
+-- its files
+abbrev pub files_in : MemPost → Files
+files_in post = files_of post.files
+
+-- the numbers, from 1, of the calls that are to fail
+abbrev pub failing_calls : MemPost → List ℕ
+failing_calls post = post.calls.failing.items
+
+-- how many calls it has had
+abbrev pub calls_made : MemPost → ℕ
+calls_made post = post.calls.made
+
+abbrev pub counts_of : MemPost → Counts
+counts_of post = post.calls.counts
+
+-- the same calls are to fail, and where there are none, none has failed
+abbrev pub Follows : MemPost → MemPost → Type 0
+Follows before now = KeepsPlan (failing_calls before) (failing_calls now) (counts_of before) (counts_of now)

@@ -1,0 +1,24 @@
+-- What an output in memory shows.
+use Rattle.std.specs.Prelude.{ℕ, List}
+use Rattle.group_fields.specs.declared.counts.Counts.{Counts}
+use Rattle.mail_trait.specs.Calls.{KeepsPlan}
+use Rattle.mail_trait.specs.declared.mem_sink.MemSink.{MemSink}
+
+-- the bytes that were appended
+abbrev pub bytes_in : MemSink → List ℕ
+bytes_in sink = sink.bytes.items
+
+-- the numbers, from 1, of the calls that are to fail
+abbrev pub failing_calls : MemSink → List ℕ
+failing_calls sink = sink.calls.failing.items
+
+-- how many calls it has had
+abbrev pub calls_made : MemSink → ℕ
+calls_made sink = sink.calls.made
+
+abbrev pub counts_of : MemSink → Counts
+counts_of sink = sink.calls.counts
+
+-- the same calls are to fail, and where there are none, none has failed
+abbrev pub Follows : MemSink → MemSink → Type 0
+Follows before now = KeepsPlan (failing_calls before) (failing_calls now) (counts_of before) (counts_of now)

@@ -1,0 +1,109 @@
+ghost use Rattle.std.specs.Prelude.{◌≡◌, ◌≤◌, [], length, take, OnOk, OnErr, IfOk, IfSome};
+ghost use Rattle.std.specs.Option.{option_map};
+ghost use Rattle.std.specs.FinMap.{empty, get, insert};
+ghost use Rattle.group_fields.specs.Cause.{HasCause};
+ghost use Rattle.mail_trait.specs.Calls.{FailsAsPlanned};
+ghost use Rattle.mail_trait.specs.Post.{rows_of, SameElsewhere};
+ghost use Rattle.mail_trait.specs.declared.error.MailError.TheVariants.{Failed, Memory as NoMemory};
+
+use crate::calls::Calls;
+use crate::mem_files::{read_file, rows, store};
+use crate::{Listing, MailError, Post};
+use group_fields::{Bytes, Counts, Memory};
+use std::alloc::Global;
+use std::collections::BTreeMap;
+
+/// A mail folder in memory, whose calls fail by a plan.
+#[derive(Drop)]
+pub struct MemPost {
+    alloc: Global,
+    files: BTreeMap<String, Vec<u8>>,
+    calls: Calls,
+}
+
+impl MemPost {
+    ghost use Rattle.mail_trait.specs.MemPost.{files_in, failing_calls, calls_made, counts_of};
+
+    /// No file yet. The calls of these numbers, from 1, are to fail.
+    pub fn new(alloc: Global, failing: &[u32]) -> Result<MemPost, Memory>
+        ensures empty { IfOk result (λ post. files_in post ≡ empty) }
+        ensures failing { IfOk result (λ post. failing_calls post ≡ failing.now) }
+        ensures made { IfOk result (λ post. calls_made post ≡ 0) }
+        ensures counts { IfOk result (λ post. counts_of post ≡ Counts.NONE) }
+    {
+        Ok(MemPost {
+            alloc,
+            files: BTreeMap::new(alloc),
+            calls: Calls::new(alloc, failing)?,
+        })
+    }
+
+    /// No file yet, and no call is to fail.
+    pub fn honest(alloc: Global) -> MemPost
+        ensures empty { files_in result ≡ empty }
+        ensures failing { failing_calls result ≡ [] }
+        ensures made { calls_made result ≡ 0 }
+        ensures counts { counts_of result ≡ Counts.NONE }
+    {
+        MemPost {
+            alloc,
+            files: BTreeMap::new(alloc),
+            calls: Calls::honest(alloc),
+        }
+    }
+}
+
+impl Post for MemPost {
+    ghost use Rattle.mail_trait.specs.Plans.{keeps-itself, keeps-on};
+    ghost use Rattle.mail_trait.specs.MemPost.{files_in, failing_calls, calls_made, counts_of, Follows};
+
+    ghost told = { Unit {0} };
+
+    ghost files = { files_in };
+
+    ghost counts = { counts_of };
+
+    ghost follows = { Follows };
+
+    fn list(&mut self) -> Result<Listing, MailError>
+        ensures rows { IfOk result (λ rows. rows ≡ rows_of (files_in self.old)) }
+        ensures files { files_in self.new ≡ files_in self.old }
+        ensures planned { FailsAsPlanned (failing_calls self.old) (calls_made self.old) (calls_made self.new) result }
+        ensures cause { HasCause Failed NoMemory (counts_of self.old) (counts_of self.new) result }
+        ensures follows { Follows self.old self.new }
+    {
+        self.calls.begin()?;
+        let outcome = rows(self.alloc, &self.files);
+        self.calls.end(outcome)
+    }
+
+    fn read(&mut self, name: &str, limit: u32) -> Result<Option<Bytes>, MailError>
+        ensures within { IfOk result (λ found. IfSome found (λ bytes. length bytes ≤ limit)) }
+        ensures bytes { IfOk result (λ found. found ≡ option_map (take limit) (get (files_in self.old) name.now)) }
+        ensures files { files_in self.new ≡ files_in self.old }
+        ensures planned { FailsAsPlanned (failing_calls self.old) (calls_made self.old) (calls_made self.new) result }
+        ensures cause { HasCause Failed NoMemory (counts_of self.old) (counts_of self.new) result }
+        ensures follows { Follows self.old self.new }
+    {
+        self.calls.begin()?;
+        let outcome = read_file(self.alloc, &self.files, name, limit);
+        self.calls.end(outcome)
+    }
+
+    fn put(&mut self, name: &str, bytes: &[u8]) -> Result<(), MailError>
+        ensures put { OnOk result (files_in self.new ≡ insert (files_in self.old) name.now bytes.now) }
+        ensures others { SameElsewhere name.now (files_in self.old) (files_in self.new) }
+        ensures unchanged { OnErr result (files_in self.new ≡ files_in self.old) }
+        ensures planned { FailsAsPlanned (failing_calls self.old) (calls_made self.old) (calls_made self.new) result }
+        ensures cause { HasCause Failed NoMemory (counts_of self.old) (counts_of self.new) result }
+        ensures follows { Follows self.old self.new }
+    {
+        self.calls.begin()?;
+        let outcome = store(&mut self.files, self.alloc, name, bytes);
+        self.calls.end(outcome)
+    }
+
+    ghost follows_itself = { λ post. keeps-itself _ _ };
+
+    ghost follows_on = { λ a b c f g. keeps-on _ _ _ _ _ _ f g };
+}
