@@ -1,5 +1,5 @@
 -- Lists of bytes, xor others.
-use Rattle.std.proofs.Common.{◌≡◌, ℕ, zero, suc, ◌+◌, ◌*◌, ◌-◌, ◌/◌, ◌<◌, ◌≤◌, min, List, [], ◌∷◌, ◌++◌, length, get_or, set, take, drop, map, refl, sym, ap, ◌∙◌, arith, length-append, length-drop, length-take, add-one, add-zero, ap₂, inl, inr, ◌%◌, take-append-drop, take-add, codes, ◌^◌}
+use Rattle.std.proofs.Common.{◌≡◌, ℕ, zero, suc, ◌+◌, ◌*◌, ◌-◌, ◌/◌, ◌<◌, ◌≤◌, min, List, [], ◌∷◌, ◌++◌, length, get_or, set, take, drop, refl, sym, ap, ◌∙◌, arith, length-append, length-drop, length-take, add-one, add-zero, ap₂, inl, inr, ◌%◌, take-append-drop, take-add, codes, ◌^◌}
 use Rattle.rand_chacha.specs.ChaCha.{ChaCha, key_of, next_word}
 use Rattle.std.proofs.lemmas.List.{append_assoc, append-nil, take_all, drop_all, take_at, drop_at, drop_more, take_more, drop-drop, set_at, get_or_at, length-take-le, get_or-drop}
 use Rattle.std.proofs.lemmas.Bool.{cases_lt}

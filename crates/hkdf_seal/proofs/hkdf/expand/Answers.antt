@@ -1,5 +1,5 @@
-use Rattle.std.proofs.Common.{◌≡◌, ◌<◌, ℕ, ◌+◌, ◌*◌, length, take, arith, ◌∙◌, ap, refl, List, ◌++◌}
-use Rattle.hkdf_seal.specs.Keys.{block, blocks}
+use Rattle.std.proofs.Common.{◌≡◌, ℕ, ◌+◌, ◌*◌, length, take, arith, ◌∙◌, ap, refl, List, ◌++◌}
+use Rattle.hkdf_seal.specs.Keys.{block}
 use Rattle.hkdf_seal.proofs.Blocks.{block_step, blocks_none, blocks_step, expand_all}
 use Rattle.hkdf_seal.proofs.hkdf.expand.Goals as goal
 

@@ -1,6 +1,5 @@
 use Rattle.std.proofs.Common.{◌≡◌, List, ℕ, [], ◌∷◌, ◌++◌, ◌∙◌, ap, sym, codes}
 use Rattle.hkdf_seal.specs.Keys.{extract, hmac}
-use Rattle.hkdf_seal.specs.Macs.{IsAfter}
 use Rattle.hkdf_seal.proofs.Blocks.{kdf_is}
 use Rattle.hkdf_seal.proofs.hkdf.kdf.Goals as goal
 

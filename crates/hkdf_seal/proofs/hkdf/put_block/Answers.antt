@@ -1,4 +1,4 @@
-use Rattle.std.proofs.Common.{◌≡◌, arith, ◌∙◌, ap, take, ◌+◌, rules}
+use Rattle.std.proofs.Common.{◌∙◌, ap, take, ◌+◌, rules}
 use Rattle.hkdf_seal.proofs.Blocks.{put_front}
 use Rattle.hkdf_seal.proofs.hkdf.put_block.Goals as goal
 

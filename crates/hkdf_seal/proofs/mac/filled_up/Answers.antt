@@ -1,4 +1,4 @@
-use Rattle.std.proofs.Common.{ap, ◌-◌, ◌∙◌, ◌++◌, ◌+◌, length, drop, replicate, zero-add, ℕ}
+use Rattle.std.proofs.Common.{ap, ◌-◌, ◌∙◌, ◌++◌, ◌+◌, length, replicate, zero-add}
 use Rattle.std.proofs.lemmas.List.{drop-replicate}
 use Rattle.hkdf_seal.proofs.mac.filled_up.Goals as goal
 

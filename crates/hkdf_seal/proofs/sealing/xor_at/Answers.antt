@@ -1,4 +1,4 @@
-use Rattle.std.proofs.Common.{◌≡◌, ◌++◌, take, drop, take-append-drop, arith, ◌∙◌, sym, ap}
+use Rattle.std.proofs.Common.{arith, ◌∙◌}
 use Rattle.hkdf_seal.proofs.Xors.{xored_none, xored_more, xored_all}
 use Rattle.hkdf_seal.proofs.sealing.xor_at.Goals as goal
 

@@ -1,4 +1,4 @@
-use Rattle.std.proofs.Common.{◌≡◌, arith, ◌∙◌, ap}
+use Rattle.std.proofs.Common.{arith, ◌∙◌, ap}
 use Rattle.byteorder.specs.Endian.{little_bytes}
 use Rattle.hkdf_seal.proofs.Xors.{streamed_none, streamed_more, streamed_all, word_step}
 use Rattle.hkdf_seal.proofs.sealing.xor_stream.Goals as goal
