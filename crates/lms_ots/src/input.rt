@@ -3,23 +3,20 @@
 ghost use Rattle.std.specs.Prelude.{◌≡◌, ◌≤◌, ◌+◌, ◌++◌, ◌∷◌, length, take, drop};
 ghost use Rattle.lms_ots.specs.OneTime.{element_at, prefix};
 
-/// The bytes of an identifier.
-pub const IDENTIFIER: usize = 16;
-
 pub(crate) const PREFIX: usize = 22;
 
 pub(crate) const INPUT: usize = 55;
 
-// Writes a part at a place.
-pub(crate) fn put(into: &mut [u8], at: usize, part: &[u8])
+/// Writes a part into a buffer, from a place on.
+pub fn put(into: &mut [u8], at: usize, part: &[u8])
     requires { at + length part.now ≤ length into.old }
     ensures { into.new ≡ take at into.old ++ (part.now ++ drop (at + length part.now) into.old) }
 {
     into[at..at + part.len()].copy_from_slice(part);
 }
 
-// The 32 bytes from a place on.
-pub(crate) fn element_at(bytes: &[u8], place: usize) -> [u8; 32]
+/// The 32 bytes from a place on.
+pub fn element_at(bytes: &[u8], place: usize) -> [u8; 32]
     requires { place + 32 ≤ length bytes.now }
     ensures { result ≡ element_at bytes.now place }
 {

@@ -2,7 +2,7 @@
 //! `q` and a secret seed, and signs one message; who signs two under one pair gives it away. No call takes memory.
 #![tactic(auto)]
 
-pub use input::{IDENTIFIER, prefix};
+pub use input::{element_at, prefix, put};
 pub use one_time::{candidate, public_value, sign_once};
 
 /// The bytes of a signature: its type, the randomizer, and an element for each of the 67 chains.

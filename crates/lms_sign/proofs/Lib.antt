@@ -1,0 +1,3 @@
+pub mod NodeLists
+pub mod Rising
+pub mod Parsing

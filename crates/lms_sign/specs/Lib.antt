@@ -1,0 +1,4 @@
+pub mod Trees
+pub mod Signatures
+pub mod Nodes
+pub mod Leaves
