@@ -1,0 +1,7 @@
+pub mod Bytes
+pub mod Lists
+pub mod Pairs
+pub mod Rounds
+pub mod Coding
+pub mod Sizes
+pub mod Codes

@@ -1,0 +1,4 @@
+pub mod Mixed
+pub mod Small
+pub mod Rows
+pub mod Round
