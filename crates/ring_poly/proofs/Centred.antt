@@ -1,5 +1,5 @@
 -- Centred numbers, and rounding.
-use Rattle.std.proofs.Common.{◌≡◌, ℕ, ◌+◌, ◌*◌, ◌<◌, ◌≤◌, List, length, get_or, ℤ, pos, ◌+ℤ◌, ◌-ℤ◌, ◌*ℤ◌, neg_ℤ, ◌≤ℤ◌, ◌<ℤ◌, refl, sym, ap, ◌∙◌, arith, ⊎_elim, All}
+use Rattle.std.proofs.Common.{◌≡◌, ℕ, ◌+◌, ◌*◌, ◌<◌, ◌≤◌, List, length, get_or, ◌/◌, ℤ, pos, negsuc, ◌+ℤ◌, ◌-ℤ◌, ◌*ℤ◌, neg_ℤ, ◌≤ℤ◌, ◌<ℤ◌, refl, sym, ap, ◌∙◌, arith, ⊎_elim, All}
 use Rattle.std.proofs.lemmas.Int.{ints}
 use Rattle.std.proofs.lemmas.Bool.{cases_lt}
 use Rattle.std.proofs.lemmas.List.{get_or_past}
@@ -10,7 +10,7 @@ use Rattle.ring_poly.proofs.Congruences.{neg-mul}
 
 pub within_from_centred : (q : ℤ) (a : List ℤ) → IsModulus q → All (IsCentred q) a → (j : ℕ) → IsWithin 2295 (coefficient a j)
 within_from_centred q a m h j =
-    ⊎_elim (λ lt. let w = All-get_or (IsCentred q) a j (pos 0) lt h in let lo = w.0 in let hi = w.1 in let o = m.odd in let most = m.most in (omega (arith, ints), omega (arith, ints)))
+    ⊎_elim (λ lt. let w = All-get_or (IsCentred q) a j (pos 0) lt h in let lo = w.0 in let hi = w.1 in let most = m.most in (omega (arith, ints), omega (arith, ints)))
     (λ ge. let e = get_or_past a j (pos 0) ge in (omega (arith, ints), omega (arith, ints)))
     (cases_lt j (length a))
 
@@ -37,3 +37,7 @@ pub all_centred_from_rounded : (q : ℤ) (a r : List ℤ) (h : ℕ) → q ≡ po
 all_centred_from_rounded q a r h e w d = All-from_get_or (IsCentred q) r (pos 0) (λ i lt.
     let n = d.len in
     centred_from_rounded q (coefficient a i) (coefficient r i) h e (All-get_or (IsCentred q) a i (pos 0) (omega arith) w) (d.each i (omega arith)))
+
+pub half_of : (m : ℤ) → IsModulus m → (h : ℕ) × (m ≡ pos (2 * h + 1))
+half_of (pos n) r = let o = r.odd in (n / 2, omega (arith, ints))
+half_of (negsuc n) r = absurd (let l = r.least in omega (arith, ints))

@@ -1,6 +1,7 @@
 -- The ring Z[x]/(x^p - x - 1). A polynomial is the list of its coefficients, that of x^0 first.
 use Rattle.std.specs.Prelude.{◌≡◌, ℕ, zero, suc, ◌+◌, ◌*◌, ◌<◌, ◌≤◌, List, [], ◌∷◌, length, map, slice_index_or, All, ℤ, pos, ◌+ℤ◌, ◌-ℤ◌, ◌*ℤ◌, neg_ℤ, ◌<ℤ◌, ◌≤ℤ◌}
 use Rattle.std.specs.List.{range_with_len}
+use Rattle.std.specs.Int.RustNames.{int_rem}
 
 -- the coefficient of x^k, which is 0 past the end of the list
 abbrev pub coefficient : List ℤ → ℕ → ℤ
@@ -45,10 +46,9 @@ IsCentred m c = (neg_ℤ m <ℤ (pos 2 *ℤ c)) × ((pos 2 *ℤ c) <ℤ m)
 
 -- A modulus of the key encapsulation, 3, 127 and 4591 among them: odd, and small enough for the sums of the code
 pub record IsModulus (m : ℤ) : Type 0 where
-  pub half : ℕ
-  pub odd : m ≡ pos (2 * half + 1)
-  pub least : 1 ≤ half
-  pub most : half ≤ 2295
+  pub odd : int_rem m (pos 2) ≡ pos 1
+  pub least : pos 3 ≤ℤ m
+  pub most : m ≤ℤ pos 4591
 
 -- at most m in size
 abbrev pub IsWithin : ℕ → ℤ → Type 0

@@ -6,5 +6,6 @@ use Rattle.ring_poly.proofs.remainder.Goals as goal
 
 pub returns-clause-congruent : goal.returns-clause-congruent
 returns-clause-congruent g c =
-    let odd = c.requires.odd in
+    let least = c.requires.least in
+    let most = c.requires.most in
     IsCongruent-rem _ _ _ (rest_is _ _ c.ranges.value (omega (arith, ints)) (omega (arith, ints)))
