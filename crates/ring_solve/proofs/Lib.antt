@@ -1,2 +1,4 @@
 pub mod Residues
 pub mod Eliminates
+pub mod Solving
+pub mod Deciding

@@ -1,2 +1,2 @@
 pub mod Elimination
-
+pub mod Solutions

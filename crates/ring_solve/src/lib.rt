@@ -1,9 +1,13 @@
 //! Inverses modulo x^p - x - 1 by linear equations.
 #![tactic(auto)]
 
-ghost use Rattle.std.specs.Prelude.{◌≡◌, ℕ, ◌+◌, ◌-◌, ◌*◌, ◌%◌, ◌^◌, ◌<◌, ◌≤◌, length, slice_index, pos, List, ℤ, sum};
-ghost use Rattle.ring_poly.specs.Ring.{IsCongruent, weighted};
+ghost use Rattle.std.specs.Prelude.{◌≡◌, ℕ, ◌+◌, ◌-◌, ◌*◌, ◌%◌, ◌^◌, ◌<◌, ◌≤◌, length, slice_index, pos, List, ℤ, sum, map, take, All, IfOk};
+ghost use Rattle.ring_poly.specs.Ring.{AreCongruent, IsCentred, IsCongruent, IsModulus, IsWithin, coefficient, product, weighted};
 ghost use Rattle.ring_solve.specs.Elimination.{numbers_from, Vanishes, VanishesAtEach, IsBasis, IsPrime};
+
+use ring_poly::{center, mul_q, windows};
+use std::alloc::{AllocError, Global};
+use std::marker::Model;
 
 /// How many multiples of a row are added before the sums are reduced: so many fit a `u32`.
 const STEPS: u32 = 200;
@@ -161,4 +165,188 @@ fn insert(m: u32, row: &mut [u32], basis: &mut [u32], kept: &mut [u8])
             steps = clear(m, lead, c, steps, row, basis);
         }
     }
+}
+
+/// The first column for which no row is kept.
+fn free_column(kept: &[u8]) -> usize
+    requires { sum kept.now < length kept.now }
+    ensures in_range { result < length kept.now }
+    ensures free { slice_index kept.now result ≡ 0 }
+    ensures before { (c : ℕ) → c < result → 1 ≤ slice_index kept.now c }
+{
+    for c in 0..kept.len() {
+        if kept[c] == 0 {
+            return c;
+        }
+    }
+    unreachable!()
+}
+
+/// The sum of the products of the numbers and those of the row that begins at a place.
+fn row_sum(basis: &[u32], at: usize, x: &[u32]) -> u64
+    requires place { at + length x.now ≤ length basis.now }
+    requires room { length basis.now < 2 ^ 62 }
+    requires width { length x.now ≤ 761 }
+    requires basis_below { (k : ℕ) → slice_index basis.now k ≤ 4590 }
+    requires below { (j : ℕ) → slice_index x.now j ≤ 4590 }
+    ensures { pos result ≡ weighted (map pos x.now) (numbers_from basis.now at) }
+{
+    let mut sum = 0u64;
+    for j in 0..x.len() {
+        sum += basis[at + j] as u64 * x[j] as u64;
+    }
+    sum
+}
+
+/// The number below m that brings a sum to 0 modulo m.
+fn negated(m: u32, sum: u64) -> u32
+    requires { 0 < m }
+    ensures below { result < m }
+    ensures opposite { IsCongruent (pos m) (pos (sum + result)) (pos 0) }
+{
+    let rest = (sum % m as u64) as u32;
+    if rest == 0 { 0 } else { m - rest }
+}
+
+/// Finds numbers, 1 at the free column and 0 behind it, at which each row kept for a column before it vanishes.
+fn solve(m: u32, free: usize, basis: &[u32], x: &mut [u32])
+    requires some { 1 < m }
+    requires small { m ≤ 4591 }
+    requires width { length x.old ≤ 761 }
+    requires column { free < length x.old }
+    requires len { length basis.now ≡ length x.old * length x.old }
+    requires basis_below { (k : ℕ) → slice_index basis.now k < m }
+    requires before { (c j : ℕ) → c < length x.old → j < c → slice_index basis.now (c * length x.old + j) ≡ 0 }
+    requires pivot { (c : ℕ) → c < free → slice_index basis.now (c * length x.old + c) ≡ 1 }
+    requires blank { (j : ℕ) → slice_index x.old j ≡ 0 }
+    ensures below { (j : ℕ) → slice_index x.new j < m }
+    ensures one { slice_index x.new free ≡ 1 }
+    ensures beyond { (j : ℕ) → free < j → slice_index x.new j ≡ 0 }
+    ensures vanishes { (c : ℕ) → c < free → Vanishes m (map pos x.new) basis.now (c * length x.old) }
+{
+    let width = x.len();
+    x[free] = 1;
+    for step in 0..free {
+        let c = free - 1 - step;
+        let sum = row_sum(basis, c * width, x);
+        x[c] = negated(m, sum);
+    }
+}
+
+/// Takes the rows from 1 on of a multiplication into the basis. The rows are windows of the residues, the first the last.
+fn eliminate(m: u32, residues: &[u32], row: &mut [u32], basis: &mut [u32], kept: &mut [u8])
+    requires prime { IsPrime m }
+    requires some { 1 < m }
+    requires small { m ≤ 4591 }
+    requires wide { 0 < length row.old }
+    requires width { length row.old ≤ 761 }
+    requires len { length residues.now + 1 ≡ 2 * length row.old }
+    requires below { (k : ℕ) → slice_index residues.now k < m }
+    requires basis { IsBasis m (length row.old) basis.old kept.old }
+    requires empty { sum kept.old ≡ 0 }
+    ensures basis { IsBasis m (length row.old) basis.new kept.new }
+    ensures count { sum kept.new + 1 ≤ length row.old }
+    ensures rows { (a : List ℤ) → length a ≡ length row.old → VanishesAtEach m (length row.old) basis.new kept.new a → (r : ℕ) → 0 < r → r < length row.old → Vanishes m a residues.now (length row.old - 1 - r) }
+{
+    let width = row.len();
+    for r in 1..width {
+        let start = width - 1 - r;
+        row.copy_from_slice(&residues[start..start + width]);
+        insert(m, row, basis, kept);
+    }
+}
+
+/// The rest modulo m of a sum of two centred coefficients.
+fn residue(m: u32, value: i16) -> u32
+    requires some { 0 < m }
+    requires small { m ≤ 4591 }
+    requires within { IsWithin 4590 value }
+    ensures below { result < m }
+    ensures congruent { IsCongruent (pos m) (pos result) value }
+{
+    let shifted = value as i32 + 4591 * m as i32;
+    shifted as u32 % m
+}
+
+/// Writes the rest modulo m of each number.
+fn reduce_numbers(m: u32, numbers: &[i16], residues: &mut [u32])
+    requires some { 0 < m }
+    requires small { m ≤ 4591 }
+    requires len { length residues.old ≡ length numbers.now }
+    requires within { (j : ℕ) → IsWithin 4590 (coefficient numbers.now j) }
+    ensures below { (j : ℕ) → slice_index residues.new j < m }
+    ensures congruent { (j : ℕ) → j < length numbers.now → IsCongruent (pos m) (pos (slice_index residues.new j)) (coefficient numbers.now j) }
+{
+    for j in 0..numbers.len() {
+        residues[j] = residue(m, numbers[j]);
+    }
+}
+
+/// Writes the centred number that is congruent to each number times a scale.
+fn center_each<const M: i32>(scale: u32, x: &[u32], out: &mut [i16])
+    requires modulus { IsModulus M }
+    requires scale_small { scale ≤ 4590 }
+    requires below { (j : ℕ) → slice_index x.now j ≤ 4590 }
+    requires len { length out.old ≡ length x.now }
+    ensures congruent { (j : ℕ) → j < length x.now → IsCongruent M (coefficient out.new j) (pos (scale * slice_index x.now j)) }
+    ensures centred { All (IsCentred M) out.new }
+{
+    for j in 0..x.len() {
+        out[j] = center::<M>((scale * x[j]) as i32);
+    }
+}
+
+/// The modulus as an unsigned number.
+#[inline(always)]
+fn modulus<const M: i32>() -> u32
+    requires { IsModulus M }
+    ensures value { pos result ≡ M }
+    ensures least { 3 ≤ result }
+    ensures most { result ≤ 4591 }
+{
+    M as u32
+}
+
+/// A list of coefficients, that of x^0 first.
+#[derive(Drop)]
+pub struct Poly {
+    coefficients: Vec<i16>,
+}
+
+impl Model for Poly {
+    ghost Value = { List ℤ };
+
+    ghost view = { λ p. p.coefficients.items };
+}
+
+impl Poly {
+    /// The polynomial with these coefficients.
+    pub fn from_vec(coefficients: Vec<i16>) -> Self
+        ensures { result ≡ coefficients.items }
+    {
+        Poly { coefficients }
+    }
+
+    /// The coefficients.
+    pub fn as_slice(&self) -> &[i16]
+        ensures { result.now ≡ self.now }
+    {
+        self.coefficients.as_slice()
+    }
+
+    /// Gives the coefficients back, without taking memory.
+    pub fn into_vec(self) -> Vec<i16>
+        ensures { result.items ≡ self }
+    {
+        self.coefficients
+    }
+}
+
+/// What the equations for an inverse answer.
+#[derive(Drop)]
+pub enum Solved {
+    /// The inverse.
+    Inverse(Poly),
+    /// A polynomial that isn't 0 and whose product is 0: there is no inverse.
+    Kernel(Poly),
 }
