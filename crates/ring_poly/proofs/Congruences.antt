@@ -27,7 +27,7 @@ IsCongruent-add m a b c d h k = record { factor = h.factor +ℤ k.factor; is = l
 pub IsCongruent-mul : (m c a b : ℤ) → IsCongruent m a b → IsCongruent m (c *ℤ a) (c *ℤ b)
 IsCongruent-mul m c a b h = record { factor = c *ℤ h.factor; is = ap (λ x. c *ℤ x) h.is ∙ mul-add c b (h.factor *ℤ m) ∙ ap (λ x. c *ℤ b +ℤ x) (sym (mul_assoc c h.factor m)) }
 
-times_one : (x : ℤ) → x *ℤ pos 1 ≡ x
+pub times_one : (x : ℤ) → x *ℤ pos 1 ≡ x
 unfolding one
 times_one x = *ℤ-one x
 

@@ -20,3 +20,7 @@ Solves p m a (Kernel z) = AreCongruent m (product p a z) (zero_of p) × (z ≡ z
 abbrev pub coefficients_of : Solved → List ℤ
 coefficients_of (Inverse b) = b
 coefficients_of (Kernel z) = z
+
+-- the moduli of the sets, each a prime
+abbrev pub IsField : ℤ → Type 0
+IsField m = (m ≡ pos 3) ⊎ ((m ≡ pos 127) ⊎ (m ≡ pos 4591))

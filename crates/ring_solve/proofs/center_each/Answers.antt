@@ -26,8 +26,11 @@ loop-j-preserved g c =
       centred = written (λ k x. IsCentred (to_z w32 g.row.M) x) c.loop-j.out c.loop-j.j _ c.center.result (omega arith) cast c.loop-j.invariant.centred size;
     }
 
-pub overflow_mul-center : goal.overflow_mul-center
-overflow_mul-center g c = ?
+pub overflow_mul-scale : goal.overflow_mul-scale
+overflow_mul-scale g c = omega (arith, term c.args.scale (slice_index c.args.x.now c.loop-j.j) c.requires.scale_small (c.requires.below c.loop-j.j))
+
+pub overflow_cast-scale : goal.overflow_cast-scale
+overflow_cast-scale g c = omega (arith, term c.args.scale (slice_index c.args.x.now c.loop-j.j) c.requires.scale_small (c.requires.below c.loop-j.j))
 
 pub returns-clause-congruent : goal.returns-clause-congruent
 returns-clause-congruent g c = λ j lt. c.loop-j.invariant.congruent j (omega arith)

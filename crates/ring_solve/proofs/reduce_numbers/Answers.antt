@@ -2,6 +2,8 @@ use Rattle.std.proofs.Common.{◌≡◌, ◌≢◌, ℕ, ◌+◌, ◌<◌, slice
 use Rattle.std.proofs.lemmas.Bool.{cases_lt}
 use Rattle.std.proofs.lemmas.List.{get_or_past}
 use Rattle.ring_poly.specs.Ring.{IsCongruent, coefficient}
+use Rattle.ring_poly.proofs.Casts.{widened_16}
+use Rattle.ring_poly.proofs.Congruences.{IsCongruent-onto}
 use Rattle.ring_solve.proofs.Solving.{written}
 use Rattle.ring_solve.proofs.reduce_numbers.Goals as goal
 
@@ -11,7 +13,7 @@ loop-j-init c = record { below = λ k lt. absurd (omega arith); congruent = λ k
 pub loop-j-preserved : goal.loop-j-preserved
 loop-j-preserved c = record {
   below = written (λ k x. x < c.args.m) c.loop-j.residues c.loop-j.j c.residue.result (omega arith) c.loop-j.invariant.below c.residue.ensures.below;
-  congruent = written (λ k x. IsCongruent (pos c.args.m) (pos x) (coefficient c.args.numbers.now k)) c.loop-j.residues c.loop-j.j c.residue.result (omega arith) c.loop-j.invariant.congruent c.residue.ensures.congruent;
+  congruent = written (λ k x. IsCongruent (pos c.args.m) (pos x) (coefficient c.args.numbers.now k)) c.loop-j.residues c.loop-j.j c.residue.result (omega arith) c.loop-j.invariant.congruent (IsCongruent-onto _ _ _ _ c.residue.ensures.congruent (widened_16 _ (c.requires.within c.loop-j.j)));
 }
 
 pub returns-clause-below : goal.returns-clause-below
