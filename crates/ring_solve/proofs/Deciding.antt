@@ -16,7 +16,7 @@ use Rattle.ring_poly.proofs.WindowSums.{coefficient-product, length-product}
 use Rattle.ring_poly.proofs.Commutes.{product_comm}
 use Rattle.ring_poly.proofs.Congruences.{IsCongruent-same, IsCongruent-back, IsCongruent-then, IsCongruent-add, IsCongruent-mul, IsCongruent-onto, times_one}
 use Rattle.ring_solve.specs.Elimination.{numbers_from, Vanishes, VanishesAtEach, IsBasis}
-use Rattle.ring_solve.specs.Solutions.{one, zero_of}
+use Rattle.ring_solve.specs.Fields.{one, zero_of}
 use Rattle.ring_solve.proofs.Residues.{congruent_by, rest_congruent, times_congruent}
 use Rattle.ring_solve.proofs.Eliminates.{rest_is, weighted_congruent, times_zero}
 
@@ -26,7 +26,7 @@ weighted_first m s [] [] g len h = IsCongruent-same m (pos 0) (s *ℤ pos 0) (sy
 weighted_first m s (x ∷ b) (y ∷ z) g len h =
     let here : IsCongruent m (g 0 *ℤ x) (g 0 *ℤ (s *ℤ y)) = IsCongruent-mul m (g 0) x (s *ℤ y) (h 0 (omega arith)) in
     let first : IsCongruent m (x *ℤ g 0) (s *ℤ (y *ℤ g 0)) =
-      IsCongruent-then m _ (g 0 *ℤ x) _ (IsCongruent-same m _ _ (*ℤ_comm x (g 0))) (IsCongruent-onto m _ (g 0 *ℤ (s *ℤ y)) _ here (*ℤ_comm (g 0) (s *ℤ y) ∙ mul_assoc s y (g 0))) in
+    IsCongruent-then m _ (g 0 *ℤ x) _ (IsCongruent-same m _ _ (*ℤ_comm x (g 0))) (IsCongruent-onto m _ (g 0 *ℤ (s *ℤ y)) _ here (*ℤ_comm (g 0) (s *ℤ y) ∙ mul_assoc s y (g 0))) in
     let rest = weighted_first m s b z (λ j. g (suc j)) (omega arith) (λ j lt. h (suc j) (omega arith)) in
     IsCongruent-onto m _ (s *ℤ (y *ℤ g 0) +ℤ s *ℤ weighted z (λ j. g (suc j))) _ (IsCongruent-add m _ _ _ _ first rest) (sym (mul-add s (y *ℤ g 0) (weighted z (λ j. g (suc j)))))
 weighted_first m s [] (y ∷ z) g len h = absurd (omega arith)
@@ -50,7 +50,7 @@ row_coefficient m p a numbers x residues k len rows same some lt v =
     let l = length-map x pos in
     IsCongruent-then (pos m) _ (weighted (map pos x) (λ j. coefficient numbers (p - 1 - k + j))) _ (IsCongruent-same (pos m) _ _ (rows (map pos x) k (omega arith) some lt))
     (IsCongruent-then (pos m) _ (weighted (map pos x) (numbers_from residues (p - 1 - k))) _
-        (IsCongruent-back (pos m) _ _ (weighted_congruent (pos m) (map pos x) (numbers_from residues (p - 1 - k)) (λ j. coefficient numbers (p - 1 - k + j)) (λ j below. same (p - 1 - k + j) (omega arith)))) v)
+    (IsCongruent-back (pos m) _ _ (weighted_congruent (pos m) (map pos x) (numbers_from residues (p - 1 - k)) (λ j. coefficient numbers (p - 1 - k + j)) (λ j below. same (p - 1 - k + j) (omega arith)))) v)
 
 -- a centred multiple of m is 0
 pub centred_zero : (m : ℕ) (c : ℤ) → IsCentred (pos m) c → IsCongruent (pos m) c (pos 0) → c ≡ pos 0
@@ -131,8 +131,8 @@ scaled_rows : (m s p : ℕ) (a z : List ℤ) (x : List ℕ) → length x ≡ p �
 scaled_rows m s p a z x len lz h k lt =
     let l = length-map x pos in
     product_times (pos m) (pos s) p a z (map pos x) lz (omega arith) (λ j below.
-        IsCongruent-onto (pos m) _ _ _ (h j (omega arith))
-        (sym (ap (λ c. pos s *ℤ c) (let in_x : j < length x = omega arith in get_or-map pos x j 0 (pos 0) in_x) ∙ pos-*ℤ-pos s (slice_index x j)))) k lt
+    IsCongruent-onto (pos m) _ _ _ (h j (omega arith))
+    (sym (ap (λ c. pos s *ℤ c) (let in_x : j < length x = omega arith in get_or-map pos x j 0 (pos 0) in_x) ∙ pos-*ℤ-pos s (slice_index x j)))) k lt
 
 scaled_zero : (m s p : ℕ) (a z : List ℤ) (x : List ℕ) → length x ≡ p → length z ≡ p → ((j : ℕ) → j < length x → IsCongruent (pos m) (coefficient z j) (pos (s * slice_index x j)))
     → ((k : ℕ) → 0 < k → k < p → IsCongruent (pos m) (coefficient (product p a (map pos x)) k) (pos 0))
@@ -141,15 +141,16 @@ scaled_zero m s p a z x len lz h rows k some lt = IsCongruent-then (pos m) _ _ _
 
 decided_kernel_at : (m : ℕ) → DecidesKernel m (pos m)
 decided_kernel_at m p a z y x lt some len lz h one_at rows is at =
-    let l = length-product p a z in
-    (zero_congruent (pos m) p (product p a z) l (λ k below. ⊎_elim
-        (λ first. let e : 0 ≡ k = omega arith in
-            let P : ℕ → Type 0 = λ i. IsCongruent (pos m) (coefficient (product p a z) i) (pos 0) in
-            subst P e (IsCongruent-then (pos m) _ _ _ (IsCongruent-back (pos m) _ _ (is.each 0 (omega arith))) (IsCongruent-same (pos m) _ _ at)))
-        (λ further. scaled_zero m 1 p a z x len lz h rows k further below)
-        (cases_lt k 1)),
-     not_zero m p one_at.0 z lt one_at.1
-        (IsCongruent-onto (pos m) _ _ _ (h one_at.0 (let b = one_at.1 in omega arith)) (ap pos (let o = one_at.2 in omega arith))))
+    let l = length-product p a z in (
+      zero_congruent (pos m) p (product p a z) l (λ k below. ⊎_elim
+          (λ first. let e : 0 ≡ k = omega arith in
+          let P : ℕ → Type 0 = λ i. IsCongruent (pos m) (coefficient (product p a z) i) (pos 0) in
+          subst P e (IsCongruent-then (pos m) _ _ _ (IsCongruent-back (pos m) _ _ (is.each 0 (omega arith))) (IsCongruent-same (pos m) _ _ at)))
+          (λ further. scaled_zero m 1 p a z x len lz h rows k further below)
+          (cases_lt k 1)),
+      not_zero m p one_at.0 z lt one_at.1
+          (IsCongruent-onto (pos m) _ _ _ (h one_at.0 (let b = one_at.1 in omega arith)) (ap pos (let o = one_at.2 in omega arith))),
+    )
 
 pub decided_kernel : (m : ℕ) (q : ℤ) → pos m ≡ q → DecidesKernel m q
 decided_kernel m q e = let P : ℤ → Type 0 = λ c. DecidesKernel m c in subst P e (decided_kernel_at m)
@@ -170,13 +171,13 @@ decided_inverse_at m p a w y z x s r some len lw lz hw is rest inverse hz rows =
     let base = coefficient (product p a (map pos x)) 0 in
     let lp = length-product p a w in
     let by_w : IsCongruent (pos m) (coefficient (product p a w) 0) base =
-      IsCongruent-onto (pos m) _ (pos 1 *ℤ base) _ (scaled_rows m 1 p a w x len lw hw 0 some) (*ℤ_comm (pos 1) base ∙ times_one base) in
+    IsCongruent-onto (pos m) _ (pos 1 *ℤ base) _ (scaled_rows m 1 p a w x len lw hw 0 some) (*ℤ_comm (pos 1) base ∙ times_one base) in
     let by_rest : IsCongruent (pos m) base (pos r) =
-      IsCongruent-back (pos m) _ _ (IsCongruent-then (pos m) _ (coefficient y 0) _ rest (IsCongruent-then (pos m) _ (coefficient (product p a w) 0) _ (is.each 0 (omega arith)) by_w)) in
+    IsCongruent-back (pos m) _ _ (IsCongruent-then (pos m) _ (coefficient y 0) _ rest (IsCongruent-then (pos m) _ (coefficient (product p a w) 0) _ (is.each 0 (omega arith)) by_w)) in
     let first : IsCongruent (pos m) (coefficient (product p a z) 0) (pos 1) =
-      IsCongruent-then (pos m) _ (pos s *ℤ base) _ (scaled_rows m s p a z x len lz hz 0 some)
-      (IsCongruent-then (pos m) _ (pos s *ℤ pos r) _ (IsCongruent-mul (pos m) (pos s) base (pos r) by_rest)
-      (IsCongruent-then (pos m) _ (pos (s * r)) _ (IsCongruent-same (pos m) _ _ (pos-*ℤ-pos s r)) inverse)) in
+    IsCongruent-then (pos m) _ (pos s *ℤ base) _ (scaled_rows m s p a z x len lz hz 0 some)
+    (IsCongruent-then (pos m) _ (pos s *ℤ pos r) _ (IsCongruent-mul (pos m) (pos s) base (pos r) by_rest)
+    (IsCongruent-then (pos m) _ (pos (s * r)) _ (IsCongruent-same (pos m) _ _ (pos-*ℤ-pos s r)) inverse)) in
     one_congruent (pos m) p (product p a z) some (length-product p a z) first (scaled_zero m s p a z x len lz hz rows)
 
 pub decided_inverse : (m : ℕ) (q : ℤ) → pos m ≡ q → DecidesInverse m q
@@ -186,5 +187,5 @@ decided_inverse m q e = let P : ℤ → Type 0 = λ c. DecidesInverse m c in sub
 pub some_rest : (m : ℕ) (q c : ℤ) (r : ℕ) → pos m ≡ q → IsCentred q c → (c ≡ pos 0 → ⊥) → IsCongruent (pos m) (pos r) c → 0 < r
 some_rest m q c r e w ne h = ⊎_elim
     (λ zero_r. absurd (ne (centred_zero m c (let P : ℤ → Type 0 = λ d. IsCentred d c in subst P (sym e) w)
-        (IsCongruent-then (pos m) _ (pos r) _ (IsCongruent-back (pos m) _ _ h) (IsCongruent-same (pos m) _ _ (ap pos (let z : r ≡ 0 = omega arith in z)))))))
+    (IsCongruent-then (pos m) _ (pos r) _ (IsCongruent-back (pos m) _ _ h) (IsCongruent-same (pos m) _ _ (ap pos (let z : r ≡ 0 = omega arith in z)))))))
     (λ some. some) (cases_lt r 1)

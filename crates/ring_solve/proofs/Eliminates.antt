@@ -31,11 +31,11 @@ pub IsCongruent-drop : (m x z : ℤ) → IsCongruent m (x +ℤ z) (pos 0) → Is
 IsCongruent-drop m x z h k = record {
   factor = h.factor +ℤ neg_ℤ k.factor;
   is =
-    let s : (h.factor +ℤ neg_ℤ k.factor) *ℤ m ≡ h.factor *ℤ m +ℤ neg_ℤ k.factor *ℤ m = add-mul h.factor (neg_ℤ k.factor) m in
-    let n : neg_ℤ k.factor *ℤ m ≡ neg_ℤ (k.factor *ℤ m) = neg-mul k.factor m in
-    let e : x +ℤ z ≡ pos 0 +ℤ h.factor *ℤ m = h.is in
-    let f : z ≡ pos 0 +ℤ k.factor *ℤ m = k.is in
-    omega (arith, ints);
+      let s : (h.factor +ℤ neg_ℤ k.factor) *ℤ m ≡ h.factor *ℤ m +ℤ neg_ℤ k.factor *ℤ m = add-mul h.factor (neg_ℤ k.factor) m in
+      let n : neg_ℤ k.factor *ℤ m ≡ neg_ℤ (k.factor *ℤ m) = neg-mul k.factor m in
+      let e : x +ℤ z ≡ pos 0 +ℤ h.factor *ℤ m = h.is in
+      let f : z ≡ pos 0 +ℤ k.factor *ℤ m = k.is in
+      omega (arith, ints);
 }
 
 -- a row of which each number is a multiple of m
@@ -57,11 +57,11 @@ pub vanishes_before : (m f : ℕ) (a : List ℤ) (xs ys zs : List ℕ) (k : ℕ)
 vanishes_before m f a xs ys zs k h v w =
     let both : ℕ → ℤ = λ j. numbers_from xs 0 j +ℤ pos f *ℤ numbers_from ys k j in
     let sum : IsCongruent (pos m) (weighted a (numbers_from zs 0)) (weighted a both) =
-      weighted_congruent (pos m) a (numbers_from zs 0) both (λ j lt.
-        IsCongruent-then (pos m) _ _ _ (IsCongruent-same (pos m) _ _ (ap (λ n. pos (slice_index zs n)) (let e : 0 + j ≡ j = omega arith in e)))
-        (IsCongruent-onto (pos m) _ _ _ (h j lt) (let p = pos-*ℤ-pos f (slice_index ys (k + j)) in let q = ap (λ n. pos (slice_index xs n)) (let e : j ≡ 0 + j = omega arith in e) in omega (arith, ints)))) in
+    weighted_congruent (pos m) a (numbers_from zs 0) both (λ j lt.
+    IsCongruent-then (pos m) _ _ _ (IsCongruent-same (pos m) _ _ (ap (λ n. pos (slice_index zs n)) (let e : 0 + j ≡ j = omega arith in e)))
+    (IsCongruent-onto (pos m) _ _ _ (h j lt) (let p = pos-*ℤ-pos f (slice_index ys (k + j)) in let q = ap (λ n. pos (slice_index xs n)) (let e : j ≡ 0 + j = omega arith in e) in omega (arith, ints)))) in
     let apart : weighted a both ≡ weighted a (numbers_from xs 0) +ℤ pos f *ℤ weighted a (numbers_from ys k) =
-      weighted-add a (numbers_from xs 0) (λ j. pos f *ℤ numbers_from ys k j) ∙ ap (λ x. weighted a (numbers_from xs 0) +ℤ x) (weighted_times a (pos f) (numbers_from ys k)) in
+    weighted-add a (numbers_from xs 0) (λ j. pos f *ℤ numbers_from ys k j) ∙ ap (λ x. weighted a (numbers_from xs 0) +ℤ x) (weighted_times a (pos f) (numbers_from ys k)) in
     IsCongruent-drop (pos m) (weighted a (numbers_from xs 0)) (pos f *ℤ weighted a (numbers_from ys k))
     (IsCongruent-then (pos m) _ _ _ (IsCongruent-same (pos m) _ _ (sym apart)) (IsCongruent-then (pos m) _ _ _ (IsCongruent-back (pos m) _ _ sum) v))
     (times_zero (pos m) (pos f) _ w)
@@ -121,7 +121,7 @@ new_below m w k old new f r small h i =
     let P : ℕ → Type 0 = λ x. x < m in
     ⊎_elim (λ low. subst P (sym (r.before i low)) (h i))
     (λ high. ⊎_elim (λ inside. subst P (sym (ap (slice_index new) (let e : i ≡ k * w + (i - k * w) = omega arith in e) ∙ r.written (i - k * w) (omega arith))) (small (i - k * w)))
-        (λ above. subst P (sym (r.after i above)) (h i)) (cases_lt i (k * w + w)))
+    (λ above. subst P (sym (r.after i above)) (h i)) (cases_lt i (k * w + w)))
     (cases_lt i (k * w))
 
 pub placed_basis : (m w k : ℕ) (old new kept : List ℕ) (f : ℕ → ℕ) → IsBasis m w old kept → k < w → length new ≡ length old → Replaces w k old new f
@@ -135,17 +135,17 @@ placed_basis m w k old new kept f b lt len r small none one =
       kept_len = omega arith;
       below = new_below m w k old new f r small b.below;
       before = λ d j d_lt j_lt. ⊎_elim
-        (λ same. row_same w k d j old new f r same (omega arith) ∙ none j (omega arith))
-        (λ other. row_other w k d j old new f r other (omega arith) ∙ b.before d j d_lt j_lt)
-        (cases_eq d k);
+          (λ same. row_same w k d j old new f r same (omega arith) ∙ none j (omega arith))
+          (λ other. row_other w k d j old new f r other (omega arith) ∙ b.before d j d_lt j_lt)
+          (cases_eq d k);
       pivot = λ d d_lt is. ⊎_elim
-        (λ same. row_same w k d d old new f r same d_lt ∙ ap f same ∙ one)
-        (λ other. row_other w k d d old new f r other d_lt ∙ b.pivot d d_lt (sym (get_or-set_other kept k d 1 0 other) ∙ is))
-        (cases_eq d k);
+          (λ same. row_same w k d d old new f r same d_lt ∙ ap f same ∙ one)
+          (λ other. row_other w k d d old new f r other d_lt ∙ b.pivot d d_lt (sym (get_or-set_other kept k d 1 0 other) ∙ is))
+          (cases_eq d k);
       counts = λ d. let P : ℕ → Type 0 = λ x. x ≤ 1 in ⊎_elim
-        (λ same. let in_range : k < length kept = omega arith in let e : slice_index (set kept k 1) d ≡ 1 = ap (slice_index (set kept k 1)) same ∙ get_or-set_same kept k 1 0 in_range in omega arith)
-        (λ other. subst P (sym (get_or-set_other kept k d 1 0 other)) (b.counts d))
-        (cases_eq d k);
+          (λ same. let in_range : k < length kept = omega arith in let e : slice_index (set kept k 1) d ≡ 1 = ap (slice_index (set kept k 1)) same ∙ get_or-set_same kept k 1 0 in_range in omega arith)
+          (λ other. subst P (sym (get_or-set_other kept k d 1 0 other)) (b.counts d))
+          (cases_eq d k);
     }
 
 pub placed_keeps : (m w k : ℕ) (old new kept : List ℕ) (f : ℕ → ℕ) (a : List ℤ) → slice_index kept k ≡ 0 → Replaces w k old new f → length a ≡ w

@@ -67,20 +67,20 @@ pub each_vanishes : (m w free : ℕ) (x basis kept : List ℕ) → IsBasis m w b
 each_vanishes m w free x basis kept b len none beyond low c lt one =
     ⊎_elim (λ same. let e = ap (slice_index kept) same in absurd (omega arith))
     (λ apart. ⊎_elim (λ below. low c below)
-        (λ above. IsCongruent-same (pos m) _ (pos 0) (weighted_none x (numbers_from basis (c * w)) (λ j j_lt.
-            ⊎_elim (λ left. ap (λ n. pos (slice_index x j) *ℤ pos n) (b.before c j lt left) ∙ *ℤ-zero (pos (slice_index x j)))
-            (λ right. ap (λ n. pos n *ℤ numbers_from basis (c * w) j) (beyond j (omega arith)) ∙ zero-*ℤ (numbers_from basis (c * w) j))
-            (cases_lt j c))))
-        apart)
+    (λ above. IsCongruent-same (pos m) _ (pos 0) (weighted_none x (numbers_from basis (c * w)) (λ j j_lt.
+    ⊎_elim (λ left. ap (λ n. pos (slice_index x j) *ℤ pos n) (b.before c j lt left) ∙ *ℤ-zero (pos (slice_index x j)))
+    (λ right. ap (λ n. pos n *ℤ numbers_from basis (c * w) j) (beyond j (omega arith)) ∙ zero-*ℤ (numbers_from basis (c * w) j))
+    (cases_lt j c))))
+    apart)
     (cases_order c free)
 
 pub set_below : (m : ℕ) (xs : List ℕ) (i v : ℕ) → v < m → ((j : ℕ) → slice_index xs j < m) → (j : ℕ) → slice_index (set xs i v) j < m
 set_below m xs i v lt h j =
     let P : ℕ → Type 0 = λ x. x < m in
     ⊎_elim (λ inside. ⊎_elim
-        (λ same. subst P (sym (ap (slice_index (set xs i v)) same ∙ get_or-set_same xs i v 0 inside)) lt)
-        (λ other. subst P (sym (get_or-set_other xs i j v 0 other)) (h j))
-        (cases_eq j i))
+    (λ same. subst P (sym (ap (slice_index (set xs i v)) same ∙ get_or-set_same xs i v 0 inside)) lt)
+    (λ other. subst P (sym (get_or-set_other xs i j v 0 other)) (h j))
+    (cases_eq j i))
     (λ past. subst P (sym (ap (λ ys. slice_index ys j) (set_past xs i v past))) (h j))
     (cases_lt i (length xs))
 
@@ -88,7 +88,7 @@ set_below m xs i v lt h j =
 pub written : (P : ℕ → ℕ → Type 0) (xs : List ℕ) (i y : ℕ) → i < length xs → ((k : ℕ) → k < i → P k (slice_index xs k)) → P i y → (k : ℕ) → k < i + 1 → P k (slice_index (set xs i y) k)
 written P xs i y lt h here = below_more (λ k. P k (slice_index (set xs i y) k)) i
     (λ k below.
-        let ne : k ≢ i = omega arith in
-        let Q : ℕ → Type 0 = λ x. P k x in
-        subst Q (sym (get_or-set_other xs i k y 0 ne)) (h k below))
+    let ne : k ≢ i = omega arith in
+    let Q : ℕ → Type 0 = λ x. P k x in
+    subst Q (sym (get_or-set_other xs i k y 0 ne)) (h k below))
     (let Q : ℕ → Type 0 = λ x. P i x in subst Q (sym (get_or-set_same xs i y 0 lt)) here)

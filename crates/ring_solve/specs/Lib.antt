@@ -1,2 +1,3 @@
 pub mod Elimination
+pub mod Fields
 pub mod Solutions

@@ -1,13 +1,20 @@
 //! Inverses modulo x^p - x - 1 by linear equations.
 #![tactic(auto)]
 
-ghost use Rattle.std.specs.Prelude.{◌≡◌, ℕ, ◌+◌, ◌-◌, ◌*◌, ◌%◌, ◌^◌, ◌<◌, ◌≤◌, length, slice_index, pos, List, ℤ, sum, map, take, All, IfOk};
+ghost use Rattle.std.specs.Prelude.{◌≡◌, ℕ, ◌+◌, ◌-◌, ◌*◌, ◌%◌, ◌^◌, ◌<◌, ◌≤◌, length, slice_index, pos, List, ℤ, sum, map, take, All, IfOk, true, false};
 ghost use Rattle.ring_poly.specs.Ring.{AreCongruent, IsCentred, IsCongruent, IsModulus, IsWithin, coefficient, product, weighted};
+ghost use Rattle.ring_solve.specs.Fields.{IsField, one, zero_of};
+ghost use Rattle.ring_solve.specs.Solutions.{Solves, coefficients_of};
 ghost use Rattle.ring_solve.specs.Elimination.{numbers_from, Vanishes, VanishesAtEach, IsBasis, IsPrime};
 
+mod answer;
+
+pub use answer::{Poly, Solved};
 use ring_poly::{center, mul_q, windows};
 use std::alloc::{AllocError, Global};
-use std::marker::Model;
+
+/// Want of memory.
+pub type Memory = AllocError;
 
 /// How many multiples of a row are added before the sums are reduced: so many fit a `u32`.
 const STEPS: u32 = 200;
@@ -307,46 +314,165 @@ fn modulus<const M: i32>() -> u32
     M as u32
 }
 
-/// A list of coefficients, that of x^0 first.
-#[derive(Drop)]
-pub struct Poly {
-    coefficients: Vec<i16>,
+/// How many numbers stand for the rows of a multiplication, at most.
+const ROOM: usize = 1521;
+
+fn blank() -> [i16; ROOM]
+    ensures { length result ≡ 1521 }
+{
+    [0; ROOM]
 }
 
-impl Model for Poly {
-    ghost Value = { List ℤ };
-
-    ghost view = { λ p. p.coefficients.items };
+/// Finds numbers, one of them 1, at which the coefficients from 1 on of the product with `a` are 0 modulo m.
+fn kernel_numbers<const P: usize>(
+    m: u32,
+    a: &[i16],
+    residues: &mut [u32],
+    row: &mut [u32],
+    basis: &mut [u32],
+    kept: &mut [u8],
+    x: &mut [u32],
+)
+    requires size { (1 < P) × (P ≤ 761) }
+    requires prime { IsPrime m }
+    requires some { 1 < m }
+    requires small { m ≤ 4591 }
+    requires a_len { length a.now ≡ P }
+    requires a_within { (j : ℕ) → IsWithin 2295 (coefficient a.now j) }
+    requires residues_len { length residues.old + 1 ≡ 2 * P }
+    requires row_len { length row.old ≡ P }
+    requires basis_len { length basis.old ≡ P * P }
+    requires kept_len { length kept.old ≡ P }
+    requires x_len { length x.old ≡ P }
+    requires basis_blank { (k : ℕ) → slice_index basis.old k ≡ 0 }
+    requires kept_blank { (k : ℕ) → slice_index kept.old k ≡ 0 }
+    requires x_blank { (k : ℕ) → slice_index x.old k ≡ 0 }
+    ensures below { (j : ℕ) → slice_index x.new j < m }
+    ensures one { (j : ℕ) × (j < P) × (slice_index x.new j ≡ 1) }
+    ensures rows { (k : ℕ) → 0 < k → k < P → IsCongruent (pos m) (coefficient (product P a.now (map pos x.new)) k) (pos 0) }
+{
+    let mut room = blank();
+    let numbers = &mut room[..2 * P - 1];
+    windows::<P>(a, numbers);
+    reduce_numbers(m, numbers, residues);
+    eliminate(m, residues, row, basis, kept);
+    let free = free_column(kept);
+    solve(m, free, basis, x);
 }
 
-impl Poly {
-    /// The polynomial with these coefficients.
-    pub fn from_vec(coefficients: Vec<i16>) -> Self
-        ensures { result ≡ coefficients.items }
-    {
-        Poly { coefficients }
+/// Makes the answer of the numbers, and says whether it is an inverse.
+fn decide<const P: usize, const M: i32>(
+    m: u32,
+    a: &[i16],
+    x: &[u32],
+    answer: &mut [i16],
+    check: &mut [i16],
+) -> bool
+    requires size { (1 < P) × (P ≤ 761) }
+    requires modulus { IsModulus M }
+    requires prime { IsPrime m }
+    requires same { pos m ≡ M }
+    requires a_len { length a.now ≡ P }
+    requires a_centred { All (IsCentred M) a.now }
+    requires x_len { length x.now ≡ P }
+    requires answer_len { length answer.old ≡ P }
+    requires check_len { length check.old ≡ P }
+    requires below { (j : ℕ) → slice_index x.now j < m }
+    requires one { (j : ℕ) × (j < P) × (slice_index x.now j ≡ 1) }
+    requires rows { (k : ℕ) → 0 < k → k < P → IsCongruent (pos m) (coefficient (product P a.now (map pos x.now)) k) (pos 0) }
+    ensures centred { All (IsCentred M) answer.new }
+    ensures inverse { result ≡ true → AreCongruent M (product P a.now answer.new) (one P) }
+    ensures kernel { result ≡ false → AreCongruent M (product P a.now answer.new) (zero_of P) × (answer.new ≡ zero_of P → ⊥) }
+{
+    center_each::<M>(1, x, answer);
+    mul_q::<P, M>(a, answer, check);
+    if check[0] == 0 {
+        return false;
     }
-
-    /// The coefficients.
-    pub fn as_slice(&self) -> &[i16]
-        ensures { result.now ≡ self.now }
-    {
-        self.coefficients.as_slice()
-    }
-
-    /// Gives the coefficients back, without taking memory.
-    pub fn into_vec(self) -> Vec<i16>
-        ensures { result.items ≡ self }
-    {
-        self.coefficients
-    }
+    let scale = invert(m, residue(m, check[0]));
+    center_each::<M>(scale, x, answer);
+    true
 }
 
-/// What the equations for an inverse answer.
-#[derive(Drop)]
-pub enum Solved {
-    /// The inverse.
-    Inverse(Poly),
-    /// A polynomial that isn't 0 and whose product is 0: there is no inverse.
-    Kernel(Poly),
+/// `count` zeros.
+fn zeros(alloc: Global, count: usize) -> Result<Vec<u32>, AllocError>
+    ensures len { IfOk result (λ v. length v.items ≡ count) }
+    ensures blank { IfOk result (λ v. (k : ℕ) → slice_index v.items k ≡ 0) }
+{
+    vec![in alloc; 0u32; count]
+}
+
+/// `count` zeros, a byte each.
+fn zero_bytes(alloc: Global, count: usize) -> Result<Vec<u8>, AllocError>
+    ensures len { IfOk result (λ v. length v.items ≡ count) }
+    ensures blank { IfOk result (λ v. (k : ℕ) → slice_index v.items k ≡ 0) }
+{
+    vec![in alloc; 0u8; count]
+}
+
+/// `count` coefficients that are 0.
+fn zero_coefficients(alloc: Global, count: usize) -> Result<Vec<i16>, AllocError>
+    ensures { IfOk result (λ v. length v.items ≡ count) }
+{
+    vec![in alloc; 0i16; count]
+}
+
+/// Finds numbers as `kernel_numbers`, in memory of their own.
+fn found<const P: usize>(alloc: Global, m: u32, a: &[i16]) -> Result<Vec<u32>, AllocError>
+    requires size { (1 < P) × (P ≤ 761) }
+    requires prime { IsPrime m }
+    requires some { 1 < m }
+    requires small { m ≤ 4591 }
+    requires a_len { length a.now ≡ P }
+    requires a_within { (j : ℕ) → IsWithin 2295 (coefficient a.now j) }
+    ensures len { IfOk result (λ x. length x.items ≡ P) }
+    ensures below { IfOk result (λ x. (j : ℕ) → slice_index x.items j < m) }
+    ensures one { IfOk result (λ x. (j : ℕ) × (j < P) × (slice_index x.items j ≡ 1)) }
+    ensures rows { IfOk result (λ x. (k : ℕ) → 0 < k → k < P → IsCongruent (pos m) (coefficient (product P a.now (map pos x.items)) k) (pos 0)) }
+{
+    let mut residues = zeros(alloc, 2 * P - 1)?;
+    let mut row = zeros(alloc, P)?;
+    let mut basis = zeros(alloc, P * P)?;
+    let mut kept = zero_bytes(alloc, P)?;
+    let mut x = zeros(alloc, P)?;
+    kernel_numbers::<P>(
+        m,
+        a,
+        residues.as_mut_slice(),
+        row.as_mut_slice(),
+        basis.as_mut_slice(),
+        kept.as_mut_slice(),
+        x.as_mut_slice(),
+    );
+    Ok(x)
+}
+
+/// The inverse of a polynomial of P coefficients modulo x^P - x - 1 and M; or, where it has none, a polynomial that isn't
+/// 0 and whose product with it is 0. The error is want of memory.
+pub fn inverse<const P: usize, const M: i32>(alloc: Global, a: &[i16]) -> Result<Solved, Memory>
+    requires size { (1 < P) × (P ≤ 761) }
+    requires modulus { IsField M }
+    requires len { length a.now ≡ P }
+    requires centred { All (IsCentred M) a.now }
+    ensures solves { IfOk result (Solves P M a.now) }
+    ensures len { IfOk result (λ s. length (coefficients_of s) ≡ P) }
+    ensures centred { IfOk result (λ s. All (IsCentred M) (coefficients_of s)) }
+{
+    let m = modulus::<M>();
+    let x = found::<P>(alloc, m, a)?;
+    let mut answer = zero_coefficients(alloc, P)?;
+    let mut check = zero_coefficients(alloc, P)?;
+    let is_inverse = decide::<P, M>(
+        m,
+        a,
+        x.as_slice(),
+        answer.as_mut_slice(),
+        check.as_mut_slice(),
+    );
+    let answer = Poly::from_vec(answer);
+    if is_inverse {
+        Ok(Solved::Inverse(answer))
+    } else {
+        Ok(Solved::Kernel(answer))
+    }
 }

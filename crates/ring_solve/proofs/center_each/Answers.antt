@@ -22,7 +22,7 @@ loop-j-preserved g c =
     let cast : to_z w16 (of_z w16 c.center.result) ≡ c.center.result = omega (arith, ints) in
     record {
       congruent = written (λ k x. IsCongruent (to_z w32 g.row.M) x (pos (c.args.scale * slice_index c.args.x.now k))) c.loop-j.out c.loop-j.j _ c.center.result (omega arith) cast c.loop-j.invariant.congruent
-        (IsCongruent-onto _ _ _ _ c.center.ensures.congruent (omega (arith, ints)));
+          (IsCongruent-onto _ _ _ _ c.center.ensures.congruent (omega (arith, ints)));
       centred = written (λ k x. IsCentred (to_z w32 g.row.M) x) c.loop-j.out c.loop-j.j _ c.center.result (omega arith) cast c.loop-j.invariant.centred size;
     }
 

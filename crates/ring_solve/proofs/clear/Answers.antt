@@ -28,8 +28,8 @@ returns-clause-sums c = λ j.
     let s = c.settle-taken.ensures.sums j in
     let b = c.requires.below (c.args.c * length c.args.row.now + j) in
     ⊎_elim (λ lt.
-        let e = c.add_multiple.ensures j (omega arith) in
-        omega (arith, mul-le (c.args.m - c.args.lead) (slice_index c.args.basis.now (c.args.c * length c.args.row.now + j)) 4590 4590 (omega arith) (omega arith)))
+    let e = c.add_multiple.ensures j (omega arith) in
+    omega (arith, mul-le (c.args.m - c.args.lead) (slice_index c.args.basis.now (c.args.c * length c.args.row.now + j)) 4590 4590 (omega arith) (omega arith)))
     (λ ge. let e = get_or_past c.add_multiple.new.row j 0 (omega arith) in omega arith)
     (cases_lt j (length c.args.row.now))
 

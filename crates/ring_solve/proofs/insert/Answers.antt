@@ -57,26 +57,26 @@ loop-c-preserved c =
       basis = i.basis;
       kept = i.kept;
       row = elim c.if-lead-ne0.branch [
-        then-lead-ne0+else-kept-c-eq0 w ↦
-          (let s = w.clear-steps.ensures in
-          moved_cleared m c.args.basis.now c.args.kept.now c.args.row.now (k + 1) _ w.clear-steps.new.row _ w.clear-steps.result w.row-is w.steps-is
-          (record {
-            cleared = below_more (λ j. IsCongruent (pos m) (pos (slice_index w.clear-steps.new.row j)) (pos 0)) k (λ j lt. s.before j lt (i.row.cleared j lt)) s.column;
-            follows = λ a len each v. i.row.follows a len each (s.vanishes a (len ∙ sym same_len)
-              (let b = moved_each m (length c.args.row.now) (length old) c.args.basis.now c.loop-c.basis c.args.kept.now c.loop-c.kept a (sym same_len) (sym i.basis) (sym i.kept) each in
-               b k (omega arith) (let q = moved_basis m (length old) (length c.args.row.now) c.loop-c.basis c.args.basis.now c.loop-c.kept c.args.kept.now same_len i.basis i.kept c.requires.basis in
-                 let at_most = q.counts k in let free = w.if-kept-c-eq0.false in omega arith)) v);
-            few = s.few;
-            sums = s.sums;
-          }))
+        | then-lead-ne0+else-kept-c-eq0 w ↦
+            (let s = w.clear-steps.ensures in
+            moved_cleared m c.args.basis.now c.args.kept.now c.args.row.now (k + 1) _ w.clear-steps.new.row _ w.clear-steps.result w.row-is w.steps-is
+            (record {
+              cleared = below_more (λ j. IsCongruent (pos m) (pos (slice_index w.clear-steps.new.row j)) (pos 0)) k (λ j lt. s.before j lt (i.row.cleared j lt)) s.column;
+              follows = λ a len each v. i.row.follows a len each (s.vanishes a (len ∙ sym same_len)
+                  (let b = moved_each m (length c.args.row.now) (length old) c.args.basis.now c.loop-c.basis c.args.kept.now c.loop-c.kept a (sym same_len) (sym i.basis) (sym i.kept) each in
+                  b k (omega arith) (let q = moved_basis m (length old) (length c.args.row.now) c.loop-c.basis c.args.basis.now c.loop-c.kept c.args.kept.now same_len i.basis i.kept c.requires.basis in
+                  let at_most = q.counts k in let free = w.if-kept-c-eq0.false in omega arith)) v);
+              few = s.few;
+              sums = s.sums;
+            }))
         | else-lead-ne0 w ↦
-          moved_cleared m c.args.basis.now c.args.kept.now c.args.row.now (k + 1) _ old _ c.loop-c.steps w.row-is w.steps-is
-          (record {
-            cleared = below_more (λ j. IsCongruent (pos m) (pos (slice_index old j)) (pos 0)) k i.row.cleared (zero_rest m (slice_index old k) (let z = w.if-lead-ne0.false in omega arith));
-            follows = i.row.follows;
-            few = i.row.few;
-            sums = i.row.sums;
-          })
+            moved_cleared m c.args.basis.now c.args.kept.now c.args.row.now (k + 1) _ old _ c.loop-c.steps w.row-is w.steps-is
+            (record {
+              cleared = below_more (λ j. IsCongruent (pos m) (pos (slice_index old j)) (pos 0)) k i.row.cleared (zero_rest m (slice_index old k) (let z = w.if-lead-ne0.false in omega arith));
+              follows = i.row.follows;
+              few = i.row.few;
+              sums = i.row.sums;
+            })
       ];
     }
 

@@ -13,8 +13,8 @@ returns-clause-basis c =
     let f : ℕ → ℕ = λ j. slice_index row j % m * s % m in
     let none : (j : ℕ) → j < c.args.c → f j ≡ 0 = λ j lt. ap (λ x. x * s % m) (rest_is m (slice_index row j) 0 (omega arith) (c.requires.cleared j lt)) ∙ rest_is m (0 * s) 0 (omega arith) (congruent_same m (0 * s) 0 (omega arith)) in
     let one : f c.args.c ≡ 1 =
-      rest_is m (slice_index row c.args.c % m * s) 1 c.requires.some
-      (IsCongruent-then (pos m) _ _ _ (congruent_same m _ (s * c.args.lead) (ap (λ x. x * s) (sym c.requires.lead) ∙ omega arith)) c.invert.ensures.inverse) in
+    rest_is m (slice_index row c.args.c % m * s) 1 c.requires.some
+    (IsCongruent-then (pos m) _ _ _ (congruent_same m _ (s * c.args.lead) (ap (λ x. x * s) (sym c.requires.lead) ∙ omega arith)) c.invert.ensures.inverse) in
     placed_basis m (length row) c.args.c c.args.basis.now c.keep.new.basis c.args.kept.now f c.requires.basis c.requires.column (omega arith)
     (record { written = c.keep.ensures.written; before = c.keep.ensures.before; after = c.keep.ensures.after })
     (λ j. mod_below (slice_index row j % m * s) m (omega arith)) none one

@@ -48,8 +48,8 @@ loop-step-preserved c =
       beyond = λ j lt. let ne : j ≢ k = omega arith in get_or-set_other x k j v 0 ne ∙ i.beyond j lt;
       unset = λ j lt. let ne : j ≢ k = omega arith in get_or-set_other x k j v 0 ne ∙ i.unset j (omega arith);
       vanishes = λ d le lt. ⊎_elim
-        (λ same. subst (λ (n : ℕ). Vanishes c.args.m (map pos (set x k v)) c.args.basis.now (n * w)) (sym same)
-            (solved_here c.args.m k v c.row_sum-sum.result x c.args.basis.now (k * w) in_x none (c.requires.pivot k (omega arith)) c.row_sum-sum.ensures c.negated.ensures.opposite))
-        (λ other. solved_same c.args.m k v x c.args.basis.now (d * w) in_x none (c.requires.before d k (omega arith) (omega arith)) (i.vanishes d (omega arith) lt))
-        (cases_eq d k);
+          (λ same. subst (λ (n : ℕ). Vanishes c.args.m (map pos (set x k v)) c.args.basis.now (n * w)) (sym same)
+          (solved_here c.args.m k v c.row_sum-sum.result x c.args.basis.now (k * w) in_x none (c.requires.pivot k (omega arith)) c.row_sum-sum.ensures c.negated.ensures.opposite))
+          (λ other. solved_same c.args.m k v x c.args.basis.now (d * w) in_x none (c.requires.before d k (omega arith) (omega arith)) (i.vanishes d (omega arith) lt))
+          (cases_eq d k);
     }
