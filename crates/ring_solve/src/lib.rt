@@ -50,7 +50,7 @@ fn reduce_row(m: u32, row: &mut [u32])
 }
 
 /// Adds to the row, from a column on, a multiple of the row that begins at a place and has 0 before that column.
-fn add_multiple(factor: u32, from: usize, row: &mut [u32], basis: &[u32], at: usize)
+fn add_multiple(factor: u32, from: usize, row: &mut [u32], basis: &[u16], at: usize)
     requires place { at + length row.old ≤ length basis.now }
     requires room { length basis.now < 2 ^ 62 }
     requires before { (j : ℕ) → j < from → slice_index basis.now (at + j) ≡ 0 }
@@ -58,13 +58,13 @@ fn add_multiple(factor: u32, from: usize, row: &mut [u32], basis: &[u32], at: us
     ensures { (j : ℕ) → j < length row.old → slice_index row.new j ≡ slice_index row.old j + factor * slice_index basis.now (at + j) }
 {
     for j in from..row.len() {
-        row[j] += factor * basis[at + j];
+        row[j] += factor * basis[at + j] as u32;
     }
 }
 
 /// Writes the row times a number, modulo m, to a place of the basis.
 #[inline(always)]
-fn keep(m: u32, scale: u32, row: &[u32], basis: &mut [u32], at: usize)
+fn keep(m: u32, scale: u32, row: &[u32], basis: &mut [u16], at: usize)
     requires some { 0 < m }
     requires small { m ≤ 4591 }
     requires scale_small { scale < m }
@@ -75,7 +75,7 @@ fn keep(m: u32, scale: u32, row: &[u32], basis: &mut [u32], at: usize)
     ensures after { (k : ℕ) → at + length row.now ≤ k → slice_index basis.new k ≡ slice_index basis.old k }
 {
     for j in 0..row.len() {
-        basis[at + j] = row[j] % m * scale % m;
+        basis[at + j] = (row[j] % m * scale % m) as u16;
     }
 }
 
@@ -99,7 +99,7 @@ fn settle(m: u32, steps: u32, row: &mut [u32]) -> u32
 
 /// Clears a column of the row by the row that is kept for it, and answers as `settle`.
 #[inline(always)]
-fn clear(m: u32, lead: u32, c: usize, steps: u32, row: &mut [u32], basis: &[u32]) -> u32
+fn clear(m: u32, lead: u32, c: usize, steps: u32, row: &mut [u32], basis: &[u16]) -> u32
     requires small { m ≤ 4591 }
     requires width { length row.old ≤ 761 }
     requires column { c < length row.old }
@@ -126,7 +126,7 @@ fn clear(m: u32, lead: u32, c: usize, steps: u32, row: &mut [u32], basis: &[u32]
 
 /// Keeps the row for a column.
 #[inline(always)]
-fn place(m: u32, lead: u32, c: usize, row: &[u32], basis: &mut [u32], kept: &mut [u8])
+fn place(m: u32, lead: u32, c: usize, row: &[u32], basis: &mut [u16], kept: &mut [u8])
     requires prime { IsPrime m }
     requires some { 1 < m }
     requires small { m ≤ 4591 }
@@ -149,7 +149,7 @@ fn place(m: u32, lead: u32, c: usize, row: &[u32], basis: &mut [u32], kept: &mut
 
 /// Takes the row modulo m into the basis: as a multiple of what is left of it, once the kept rows are subtracted.
 #[inline(always)]
-fn insert(m: u32, row: &mut [u32], basis: &mut [u32], kept: &mut [u8])
+fn insert(m: u32, row: &mut [u32], basis: &mut [u16], kept: &mut [u8])
     requires prime { IsPrime m }
     requires some { 1 < m }
     requires small { m ≤ 4591 }
@@ -190,7 +190,7 @@ fn free_column(kept: &[u8]) -> usize
 }
 
 /// The sum of the products of the numbers and those of the row that begins at a place.
-fn row_sum(basis: &[u32], at: usize, x: &[u32]) -> u64
+fn row_sum(basis: &[u16], at: usize, x: &[u32]) -> u64
     requires place { at + length x.now ≤ length basis.now }
     requires room { length basis.now < 2 ^ 62 }
     requires width { length x.now ≤ 761 }
@@ -216,7 +216,7 @@ fn negated(m: u32, sum: u64) -> u32
 }
 
 /// Finds numbers, 1 at the free column and 0 behind it, at which each row kept for a column before it vanishes.
-fn solve(m: u32, free: usize, basis: &[u32], x: &mut [u32])
+fn solve(m: u32, free: usize, basis: &[u16], x: &mut [u32])
     requires some { 1 < m }
     requires small { m ≤ 4591 }
     requires width { length x.old ≤ 761 }
@@ -241,7 +241,7 @@ fn solve(m: u32, free: usize, basis: &[u32], x: &mut [u32])
 }
 
 /// Takes the rows from 1 on of a multiplication into the basis. The rows are windows of the residues, the first the last.
-fn eliminate(m: u32, residues: &[u32], row: &mut [u32], basis: &mut [u32], kept: &mut [u8])
+fn eliminate(m: u32, residues: &[u32], row: &mut [u32], basis: &mut [u16], kept: &mut [u8])
     requires prime { IsPrime m }
     requires some { 1 < m }
     requires small { m ≤ 4591 }
@@ -329,7 +329,7 @@ fn kernel_numbers<const P: usize>(
     a: &[i16],
     residues: &mut [u32],
     row: &mut [u32],
-    basis: &mut [u32],
+    basis: &mut [u16],
     kept: &mut [u8],
     x: &mut [u32],
 )
@@ -402,6 +402,14 @@ fn zeros(alloc: Global, count: usize) -> Result<Vec<u32>, AllocError>
     vec![in alloc; 0u32; count]
 }
 
+/// `count` zeros, two bytes each.
+fn zero_words(alloc: Global, count: usize) -> Result<Vec<u16>, AllocError>
+    ensures len { IfOk result (λ v. length v.items ≡ count) }
+    ensures blank { IfOk result (λ v. (k : ℕ) → slice_index v.items k ≡ 0) }
+{
+    vec![in alloc; 0u16; count]
+}
+
 /// `count` zeros, a byte each.
 fn zero_bytes(alloc: Global, count: usize) -> Result<Vec<u8>, AllocError>
     ensures len { IfOk result (λ v. length v.items ≡ count) }
@@ -432,7 +440,7 @@ fn found<const P: usize>(alloc: Global, m: u32, a: &[i16]) -> Result<Vec<u32>, A
 {
     let mut residues = zeros(alloc, 2 * P - 1)?;
     let mut row = zeros(alloc, P)?;
-    let mut basis = zeros(alloc, P * P)?;
+    let mut basis = zero_words(alloc, P * P)?;
     let mut kept = zero_bytes(alloc, P)?;
     let mut x = zeros(alloc, P)?;
     kernel_numbers::<P>(
