@@ -1,7 +1,7 @@
 -- What the code's casts and sums of signed numbers give.
-use Rattle.std.proofs.Common.{◌≡◌, ℕ, ◌+◌, ◌*◌, ◌^◌, ◌<◌, ◌≤◌, ℤ, pos, ◌+ℤ◌, ◌*ℤ◌, neg_ℤ, ◌≤ℤ◌, ◌<ℤ◌, refl, sym, ap, subst, ◌∙◌, arith, w32, w64, SFits, to_z, of_z}
+use Rattle.std.proofs.Common.{◌≡◌, ℕ, ◌^◌, ◌<◌, ℤ, pos, ◌+ℤ◌, ◌*ℤ◌, ◌<ℤ◌, ap, ◌∙◌, arith, w32, w64, SFits, to_z, of_z}
 use Rattle.std.specs.Int.{w16}
-use Rattle.std.specs.Int.RustNames.{int_rem, unsigned_abs}
+use Rattle.std.specs.Int.RustNames.{int_rem}
 use borrow.Author.Differences.{abs_is}
 use Rattle.std.proofs.lemmas.Int.{ints, to_z-of_z, rem_is, rem_below, fits_signed_from_abs}
 use Rattle.ring_poly.specs.Ring.{IsWithin}

@@ -1,10 +1,10 @@
 -- Laws of congruence.
-use Rattle.std.proofs.Common.{◌≡◌, ℕ, ◌+◌, ◌*◌, ◌<◌, ◌≤◌, ℤ, pos, negsuc, ◌+ℤ◌, ◌-ℤ◌, ◌*ℤ◌, neg_ℤ, ◌≤ℤ◌, ◌<ℤ◌, refl, sym, ap, subst, ◌∙◌, arith}
+use Rattle.std.proofs.Common.{◌≡◌, ℤ, pos, negsuc, ◌+ℤ◌, ◌-ℤ◌, ◌*ℤ◌, neg_ℤ, sym, ap, subst, ◌∙◌, arith}
 use Rattle.std.proofs.lemmas.Int.{ints, quot-rem}
 use Rattle.std.specs.Int.RustNames.{int_div, int_rem}
-use Rattle.std.proofs.Math.IntN.{*ℤ_comm, *ℤ-zero, zero-*ℤ, *ℤ-one, one}
+use Rattle.std.proofs.Math.IntN.{*ℤ_comm, zero-*ℤ, *ℤ-one, one}
 use Rattle.ring_poly.specs.Ring.{IsCongruent}
-use Rattle.ring_poly.proofs.Integers.{mul_assoc, mul-add, add-mul, mul_swap}
+use Rattle.ring_poly.proofs.Integers.{mul_assoc, mul-add, add-mul}
 
 pub IsCongruent-same : (m a b : ℤ) → a ≡ b → IsCongruent m a b
 IsCongruent-same m a b e = record { factor = pos 0; is = let z = zero-*ℤ m in omega (arith, ints) }

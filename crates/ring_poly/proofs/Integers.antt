@@ -1,11 +1,11 @@
 -- Laws of the integers that the products need.
-use Rattle.std.proofs.Common.{◌≡◌, ℕ, ◌+◌, ◌*◌, ◌<◌, ◌≤◌, ℤ, pos, ◌+ℤ◌, ◌-ℤ◌, ◌*ℤ◌, neg_ℤ, ◌≤ℤ◌, ◌<ℤ◌, refl, sym, ap, subst, ◌∙◌, arith}
+use Rattle.std.proofs.Common.{◌≡◌, ℕ, ◌+◌, ◌*◌, ◌≤◌, ℤ, pos, ◌+ℤ◌, ◌*ℤ◌, sym, ap, subst, ◌∙◌, arith}
 use Rattle.std.proofs.lemmas.Int.{ints, unsigned_abs-mul}
 use Rattle.std.proofs.lemmas.Nat.{mul-le}
 use Rattle.std.proofs.Math.IntN.{nat_abs}
-use Rattle.std.proofs.Math.IntN.{*ℤ_comm, *ℤ-zero, zero-*ℤ}
+use Rattle.std.proofs.Math.IntN.{*ℤ_comm}
 use Rattle.ring_poly.specs.Ring.{IsWithin as Within}
-use borrow.Author.Differences.{up, down, same_in, product_is, sum_is_lem, neg_is, abs_is}
+use borrow.Author.Differences.{up, down, same_in, product_is, sum_is_lem, abs_is}
 
 by : (k m n : ℕ) → m ≡ n → m * k ≡ n * k
 by k m n e = ap (λ x. x * k) e

@@ -1,11 +1,11 @@
 -- Laws of weighted sums, and of a coefficient of the product as one.
-use Rattle.std.proofs.Common.{◌≡◌, ℕ, zero, suc, ◌+◌, ◌-◌, ◌*◌, ◌<◌, ◌≤◌, List, [], ◌∷◌, ◌++◌, length, get_or, take, drop, ℤ, pos, ◌+ℤ◌, ◌*ℤ◌, neg_ℤ, ◌≤ℤ◌, refl, sym, ap, subst, ◌∙◌, arith}
+use Rattle.std.proofs.Common.{◌≡◌, ℕ, zero, suc, ◌+◌, ◌-◌, ◌*◌, ◌<◌, ◌≤◌, List, [], ◌∷◌, ◌++◌, length, get_or, take, drop, ℤ, pos, ◌+ℤ◌, ◌*ℤ◌, refl, sym, ap, subst, ◌∙◌, arith}
 use Rattle.std.proofs.lemmas.Int.{ints}
-use Rattle.std.proofs.Math.IntN.{*ℤ_comm, *ℤ-zero, zero-*ℤ}
-use Rattle.std.proofs.lemmas.List.{take_more, get_or_past, get_or-take, get_or-drop, length-take, length-take-le, take-take, drop-take, take-append-drop}
+use Rattle.std.proofs.Math.IntN.{*ℤ-zero}
+use Rattle.std.proofs.lemmas.List.{take_more, get_or-take, get_or-drop, length-take, length-take-le, take-take, drop-take, take-append-drop}
 use Rattle.std.proofs.lemmas.Nat.{mul-le}
-use Rattle.ring_poly.specs.Ring.{coefficient, shifted, convolution, reduced, product, weighted, IsWithin as Within}
-use Rattle.ring_poly.proofs.Integers.{mul_assoc, mul-add, add-mul, mul_swap, Within-mul, Within-add, Within-zero, Within-more}
+use Rattle.ring_poly.specs.Ring.{coefficient, shifted, convolution, reduced, weighted, IsWithin as Within}
+use Rattle.ring_poly.proofs.Integers.{mul-add, Within-mul, Within-add, Within-zero, Within-more}
 
 pub weighted-same : (a : List ℤ) (g h : ℕ → ℤ) → ((j : ℕ) → j < length a → g j ≡ h j) → weighted a g ≡ weighted a h
 weighted-same [] g h e = refl

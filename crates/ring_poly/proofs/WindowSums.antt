@@ -1,10 +1,9 @@
 -- The numbers whose windows are the rows of a multiplication.
-use Rattle.std.proofs.Common.{◌≡◌, ℕ, zero, suc, ◌+◌, ◌-◌, ◌*◌, ◌<◌, ◌≤◌, List, [], ◌∷◌, ◌++◌, length, get_or, take, drop, map, ℤ, pos, ◌+ℤ◌, ◌*ℤ◌, neg_ℤ, ◌≤ℤ◌, refl, sym, ap, subst, ◌∙◌, arith}
-use Rattle.std.specs.List.{range_with_len}
+use Rattle.std.proofs.Common.{◌≡◌, ℕ, zero, suc, ◌+◌, ◌-◌, ◌<◌, ◌≤◌, List, ◌∷◌, length, ℤ, pos, ◌+ℤ◌, ◌*ℤ◌, refl, sym, ap, ◌∙◌, arith}
 use Rattle.std.proofs.lemmas.Int.{ints}
 use Rattle.std.proofs.lemmas.List.{get_or_past}
 use Rattle.std.proofs.lemmas.List.FromFn.{get_or-map-range_with_len, length-map-range_with_len}
-use Rattle.ring_poly.specs.Ring.{coefficient, shifted, convolution, reduced, product, weighted}
+use Rattle.ring_poly.specs.Ring.{coefficient, convolution, reduced, product, weighted}
 use Rattle.ring_poly.proofs.Weighted.{back, entry, reduced_is, weighted-same}
 
 pub length-product : (p : ℕ) (a b : List ℤ) → length (product p a b) ≡ p

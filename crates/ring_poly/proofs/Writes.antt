@@ -1,5 +1,5 @@
 -- What holds at each place that a loop has written.
-use Rattle.std.proofs.Common.{◌≡◌, ◌≢◌, ℕ, ◌+◌, ◌<◌, List, length, set, ℤ, pos, sym, ap, subst, ◌∙◌, arith, get_or-set_other, get_or-set_same, below_more}
+use Rattle.std.proofs.Common.{◌≡◌, ◌≢◌, ℕ, ◌+◌, ◌<◌, List, length, set, ℤ, pos, sym, subst, ◌∙◌, arith, get_or-set_other, get_or-set_same, below_more}
 use Rattle.ring_poly.specs.Ring.{coefficient}
 
 pub written : (P : ℕ → ℤ → Type 0) (xs : List ℤ) (i : ℕ) (y w : ℤ) → i < length xs → y ≡ w → ((k : ℕ) → k < i → P k (coefficient xs k)) → P i w → (k : ℕ) → k < i + 1 → P k (coefficient (set xs i y) k)

@@ -1,7 +1,5 @@
-use Rattle.std.proofs.Common.{arith, ◌≡◌, ℤ, ◌≤◌, ℕ, take, length, subst, sym, ap, ◌∙◌}
+use Rattle.std.proofs.Common.{arith}
 use Rattle.std.proofs.lemmas.Int.{ints}
-use Rattle.std.proofs.lemmas.List.{take_all}
-use Rattle.ring_poly.specs.Ring.{IsWithin, weighted, coefficient}
 use Rattle.ring_poly.proofs.Weighted.{weighted_block, Within-front}
 use Rattle.ring_poly.proofs.dot.Goals as goal
 

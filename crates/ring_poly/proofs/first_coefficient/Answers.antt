@@ -1,8 +1,8 @@
-use Rattle.std.proofs.Common.{arith, ◌≡◌, ◌+◌, ◌-◌, ◌*◌, ℕ, take, drop, length, subst, sym, ap, ◌∙◌, pos, ◌+ℤ◌, ◌*ℤ◌, to_z, of_z}
+use Rattle.std.proofs.Common.{arith, ◌≡◌, ◌-◌, take, drop, length, ap, ◌∙◌, pos, to_z, of_z}
 use Rattle.std.specs.Int.{w16}
 use Rattle.std.proofs.lemmas.Int.{ints}
 use Rattle.std.proofs.lemmas.List.{get_or-take, length-drop, take_all}
-use Rattle.ring_poly.specs.Ring.{IsWithin, weighted, coefficient}
+use Rattle.ring_poly.specs.Ring.{weighted, coefficient}
 use Rattle.ring_poly.proofs.Casts.{multiplied_long, summed}
 use Rattle.ring_poly.proofs.Integers.{Within-mul}
 use Rattle.ring_poly.proofs.Weighted.{weighted-same}

@@ -1,8 +1,8 @@
-use Rattle.std.proofs.Common.{arith, ◌≡◌, ◌≢◌, ◌+◌, ◌-◌, ◌*◌, ◌<◌, ℕ, ℤ, take, drop, length, subst, sym, ap, ◌∙◌, pos, ◌+ℤ◌, ◌*ℤ◌, to_z, of_z, w32, w64, refl, get_or-set_other}
+use Rattle.std.proofs.Common.{arith, ◌≡◌, ◌≢◌, ◌+◌, ◌-◌, ◌*◌, ◌<◌, take, drop, ◌∙◌, pos, to_z, of_z, w32, w64, refl, get_or-set_other}
 use Rattle.std.specs.Int.{w16}
 use Rattle.std.proofs.lemmas.Int.{ints}
-use Rattle.std.proofs.lemmas.List.{get_or-take, get_or-drop, length-drop}
-use Rattle.ring_poly.specs.Ring.{IsWithin, weighted, coefficient, IsCongruent, IsCentred}
+use Rattle.std.proofs.lemmas.List.{get_or-take, get_or-drop}
+use Rattle.ring_poly.specs.Ring.{weighted, coefficient, IsCongruent, IsCentred}
 use Rattle.ring_poly.proofs.Writes.{written}
 use Rattle.ring_poly.proofs.Weighted.{weighted-same}
 use Rattle.ring_poly.proofs.Congruences.{IsCongruent-onto}

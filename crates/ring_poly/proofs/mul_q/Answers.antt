@@ -1,4 +1,4 @@
-use Rattle.std.proofs.Common.{arith, ◌≡◌, ◌+◌, ◌<◌, ◌≤◌, ℕ, ℤ, List, length, drop, ◌+ℤ◌, ◌*ℤ◌, subst, sym, ap, ◌∙◌, pos, to_z, of_z, w32, get_or-set_same, ⊎_elim}
+use Rattle.std.proofs.Common.{arith, ◌≡◌, ◌<◌, ℤ, length, drop, ◌+ℤ◌, ◌*ℤ◌, subst, sym, ap, ◌∙◌, pos, to_z, of_z, w32, get_or-set_same, ⊎_elim}
 use Rattle.std.specs.Int.{w16}
 use Rattle.std.proofs.lemmas.Int.{ints}
 use Rattle.std.proofs.lemmas.Bool.{cases_lt}

@@ -1,4 +1,4 @@
-use Rattle.std.proofs.Common.{arith, ◌<ℤ◌, pos}
+use Rattle.std.proofs.Common.{arith}
 use Rattle.std.proofs.lemmas.Int.{ints}
 use Rattle.ring_poly.proofs.Congruences.{IsCongruent-more, IsCongruent-less, IsCongruent-then, IsCongruent-same, IsCongruent-onto}
 use Rattle.ring_poly.proofs.Centred.{half_of}

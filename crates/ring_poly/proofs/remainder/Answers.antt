@@ -1,4 +1,4 @@
-use Rattle.std.proofs.Common.{arith, ◌<ℤ◌, pos}
+use Rattle.std.proofs.Common.{arith}
 use Rattle.std.proofs.lemmas.Int.{ints}
 use Rattle.ring_poly.proofs.Casts.{rest_is}
 use Rattle.ring_poly.proofs.Congruences.{IsCongruent-rem}

@@ -1,8 +1,6 @@
-use Rattle.std.proofs.Common.{arith, ◌≡◌, ◌≢◌, ◌+◌, ◌<◌, ℕ, ℤ, length, sym, ap, ◌∙◌, pos, ◌-ℤ◌, to_z, of_z, w32, refl, get_or-set_other, length-set}
-use Rattle.std.specs.Int.{w16}
+use Rattle.std.proofs.Common.{arith, ◌≢◌, ◌∙◌, pos, ◌-ℤ◌, refl, get_or-set_other}
 use Rattle.std.proofs.lemmas.Int.{ints}
-use Rattle.std.proofs.lemmas.List.Elements.{All-get_or}
-use Rattle.ring_poly.specs.Ring.{coefficient, IsCongruent, IsCentred, IsRounded}
+use Rattle.ring_poly.specs.Ring.{coefficient, IsRounded}
 use Rattle.ring_poly.proofs.Writes.{written}
 use Rattle.ring_poly.proofs.Centred.{within_from_centred, rounded_without, all_centred_from_rounded}
 use Rattle.ring_poly.proofs.Congruences.{IsCongruent-onto}

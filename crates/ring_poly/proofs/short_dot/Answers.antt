@@ -1,7 +1,6 @@
-use Rattle.std.proofs.Common.{arith, ◌≡◌, ◌+◌, ◌*◌, ℕ, take, length, subst, get_or, pos}
+use Rattle.std.proofs.Common.{arith, ◌+◌}
 use Rattle.std.proofs.lemmas.Int.{ints}
-use Rattle.std.proofs.lemmas.List.{length-take-le, get_or-take}
-use Rattle.ring_poly.specs.Ring.{IsWithin, weighted, coefficient}
+use Rattle.ring_poly.specs.Ring.{coefficient}
 use Rattle.ring_poly.proofs.Casts.{multiplied}
 use Rattle.ring_poly.proofs.Weighted.{weighted_more, Within-front}
 use Rattle.ring_poly.proofs.short_dot.Goals as goal

@@ -1,8 +1,8 @@
-use Rattle.std.proofs.Common.{arith, ◌≡◌, ◌<◌, ◌-◌, ℕ, ℤ, pos, length, ⊎_elim}
+use Rattle.std.proofs.Common.{arith, ◌≡◌, ◌-◌, pos, length, ⊎_elim}
 use Rattle.std.proofs.lemmas.Int.{ints}
 use Rattle.std.proofs.lemmas.Bool.{cases_lt}
 use Rattle.std.proofs.lemmas.List.{get_or_past}
-use Rattle.ring_poly.specs.Ring.{IsWithin, coefficient}
+use Rattle.ring_poly.specs.Ring.{IsWithin}
 use Rattle.ring_poly.proofs.Rows.{number_is, number_within, rows_are, first_is}
 use Rattle.ring_poly.proofs.Writes.{written}
 use Rattle.ring_poly.proofs.Weighted.{entry}

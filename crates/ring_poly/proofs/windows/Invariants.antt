@@ -1,4 +1,4 @@
-use Rattle.std.proofs.Common.{◌≡◌, ℕ, ◌<◌, ◌-◌, ◌+◌, ◌*◌, length}
+use Rattle.std.proofs.Common.{◌≡◌, ℕ, ◌<◌, ◌-◌}
 use Rattle.ring_poly.specs.Ring.{coefficient, IsWithin}
 use Rattle.ring_poly.proofs.Weighted.{entry}
 use Rattle.ring_poly.proofs.windows.Given as goal
