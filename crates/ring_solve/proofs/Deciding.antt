@@ -1,5 +1,5 @@
 -- What the answer's product is.
-use Rattle.std.proofs.Common.{◌≡◌, ℕ, zero, suc, ◌+◌, ◌-◌, ◌*◌, ◌%◌, ◌<◌, ◌≤◌, List, [], ◌∷◌, length, slice_index, map, replicate, get_or, sum, ⊎_elim, ℤ, pos, negsuc, ◌+ℤ◌, ◌*ℤ◌, neg_ℤ, ◌<ℤ◌, refl, sym, ap, subst, ◌∙◌, arith}
+use Rattle.std.proofs.Common.{◌≡◌, ℕ, zero, suc, ◌+◌, ◌-◌, ◌*◌, ◌%◌, ◌<◌, ◌≤◌, List, [], ◌∷◌, length, slice_index, map, sum, ⊎_elim, ℤ, pos, negsuc, ◌+ℤ◌, ◌*ℤ◌, refl, sym, ap, subst, ◌∙◌, arith}
 use Rattle.std.proofs.lemmas.Int.{ints}
 use Rattle.std.proofs.lemmas.Bool.{cases_lt}
 use Rattle.std.proofs.lemmas.List.Sums.{sum_by-cons}
@@ -15,9 +15,9 @@ use Rattle.ring_poly.proofs.Weighted.{entry}
 use Rattle.ring_poly.proofs.WindowSums.{coefficient-product, length-product}
 use Rattle.ring_poly.proofs.Commutes.{product_comm}
 use Rattle.ring_poly.proofs.Congruences.{IsCongruent-same, IsCongruent-back, IsCongruent-then, IsCongruent-add, IsCongruent-mul, IsCongruent-onto, times_one}
-use Rattle.ring_solve.specs.Elimination.{numbers_from, Vanishes, VanishesAtEach, IsBasis}
+use Rattle.ring_solve.specs.Elimination.{numbers_from, Vanishes, IsBasis}
 use Rattle.ring_solve.specs.Fields.{one, zero_of}
-use Rattle.ring_solve.proofs.Residues.{congruent_by, rest_congruent, times_congruent}
+use Rattle.ring_solve.proofs.Residues.{rest_congruent}
 use Rattle.ring_solve.proofs.Eliminates.{rest_is, weighted_congruent, times_zero}
 
 -- a sum over numbers that are s times others

@@ -1,9 +1,9 @@
 -- Congruence of natural numbers.
-use Rattle.std.proofs.Common.{◌≡◌, ℕ, zero, suc, ◌+◌, ◌-◌, ◌*◌, ◌/◌, ◌%◌, ◌<◌, ◌≤◌, ℤ, pos, negsuc, ◌+ℤ◌, ◌*ℤ◌, neg_ℤ, refl, sym, ap, subst, ◌∙◌, arith}
+use Rattle.std.proofs.Common.{◌≡◌, ℕ, zero, suc, ◌+◌, ◌-◌, ◌*◌, ◌/◌, ◌%◌, ◌<◌, ℤ, pos, ◌*ℤ◌, ap, subst, arith}
 use Rattle.std.proofs.lemmas.Int.{ints}
-use Rattle.std.proofs.Math.IntN.{*ℤ_comm, pos-*ℤ-pos}
+use Rattle.std.proofs.Math.IntN.{pos-*ℤ-pos}
 use Rattle.ring_poly.specs.Ring.{IsCongruent}
-use Rattle.ring_poly.proofs.Congruences.{IsCongruent-same, IsCongruent-back, IsCongruent-then, IsCongruent-mul, neg-mul}
+use Rattle.ring_poly.proofs.Congruences.{IsCongruent-same, IsCongruent-back, IsCongruent-then, IsCongruent-mul}
 
 -- equal up to a multiple
 pub congruent_by : (m x y k : ℕ) → x ≡ y + k * m → IsCongruent (pos m) (pos x) (pos y)

@@ -1,15 +1,14 @@
 -- Back substitution.
-use Rattle.std.proofs.Common.{◌≡◌, ℕ, zero, suc, ◌+◌, ◌-◌, ◌*◌, ◌/◌, ◌%◌, ◌<◌, ◌≤◌, ◌≢◌, List, [], ◌∷◌, length, slice_index, set, map, sum, take, get_or, get_or-set_same, get_or-set_other, below_more, ⊎_elim, ℤ, pos, ◌+ℤ◌, ◌*ℤ◌, refl, sym, ap, subst, ◌∙◌, arith}
+use Rattle.std.proofs.Common.{◌≡◌, ℕ, zero, suc, ◌+◌, ◌*◌, ◌<◌, ◌≤◌, ◌≢◌, List, [], ◌∷◌, length, slice_index, set, map, sum, take, get_or, get_or-set_same, get_or-set_other, below_more, ⊎_elim, ℤ, pos, ◌+ℤ◌, ◌*ℤ◌, refl, sym, ap, subst, ◌∙◌, arith}
 use Rattle.std.proofs.lemmas.Int.{ints}
 use Rattle.std.proofs.lemmas.Bool.{cases_lt, cases_order, cases_eq}
 use Rattle.std.proofs.lemmas.List.{length-map, get_or-map, set_past}
 use Rattle.std.proofs.lemmas.List.Sums.{sum_by-cons}
-use Rattle.std.proofs.Math.IntN.{*ℤ_comm, *ℤ-zero, zero-*ℤ, pos-*ℤ-pos}
+use Rattle.std.proofs.Math.IntN.{*ℤ-zero, zero-*ℤ, pos-*ℤ-pos}
 use Rattle.ring_poly.specs.Ring.{IsCongruent, weighted}
-use Rattle.ring_poly.proofs.Weighted.{weighted-same, weighted_more}
+use Rattle.ring_poly.proofs.Weighted.{weighted_more}
 use Rattle.ring_poly.proofs.Congruences.{IsCongruent-same, IsCongruent-then}
 use Rattle.ring_solve.specs.Elimination.{numbers_from, Vanishes, VanishesAtEach, IsBasis}
-use Rattle.ring_solve.proofs.Residues.{congruent_by}
 
 -- numbers that are all at least 1
 pub length-le-sum : (xs : List ℕ) → ((k : ℕ) → k < length xs → 1 ≤ slice_index xs k) → length xs ≤ sum xs

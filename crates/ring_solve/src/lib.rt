@@ -241,6 +241,7 @@ fn solve(m: u32, free: usize, basis: &[u16], x: &mut [u32])
 }
 
 /// Takes the rows from 1 on of a multiplication into the basis. The rows are windows of the residues, the first the last.
+#[inline(always)]
 fn eliminate(m: u32, residues: &[u32], row: &mut [u32], basis: &mut [u16], kept: &mut [u8])
     requires prime { IsPrime m }
     requires some { 1 < m }
@@ -324,6 +325,7 @@ fn blank() -> [i16; ROOM]
 }
 
 /// Finds numbers, one of them 1, at which the coefficients from 1 on of the product with `a` are 0 modulo m.
+#[inline(always)]
 fn kernel_numbers<const P: usize>(
     m: u32,
     a: &[i16],
@@ -426,6 +428,7 @@ fn zero_coefficients(alloc: Global, count: usize) -> Result<Vec<i16>, AllocError
 }
 
 /// Finds numbers as `kernel_numbers`, in memory of their own.
+#[inline(always)]
 fn found<const P: usize>(alloc: Global, m: u32, a: &[i16]) -> Result<Vec<u32>, AllocError>
     requires size { (1 < P) × (P ≤ 761) }
     requires prime { IsPrime m }
@@ -482,5 +485,93 @@ pub fn inverse<const P: usize, const M: i32>(alloc: Global, a: &[i16]) -> Result
         Ok(Solved::Inverse(answer))
     } else {
         Ok(Solved::Kernel(answer))
+    }
+}
+
+#[cfg(test)]
+mod tests {
+    use super::*;
+    use std::test::Fail;
+
+    const A: [i16; 37] = [
+        -22, 58, -44, -13, 20, -57, -54, 42, 5, -51, -17, 11, -56, 53, 1, -36, -59, -52, -8, -10,
+        -55, -33, -52, 7, -9, -56, 42, 9, -48, 58, -35, 17, 17, 11, 58, -56, 10,
+    ];
+
+    const A_INVERSE: [i16; 37] = [
+        -31, -12, -44, 42, -50, -47, -23, -47, -25, 1, -30, -44, 32, -36, -60, -12, 36, -4, -20, 3,
+        59, -5, 1, -36, 48, 36, -48, -42, 57, -54, -4, -7, 27, -18, 48, -19, 50,
+    ];
+
+    const S: [i16; 37] = [
+        0, 0, 0, 1, 0, 0, 0, -1, -1, 1, -1, -1, 1, 0, 1, 0, 0, 1, 0, 0, 1, -1, -1, 1, 0, -1, 0, -1,
+        0, 0, -1, 1, -1, 1, 1, 0, 0,
+    ];
+
+    const S_INVERSE: [i16; 37] = [
+        0, 1, -1, -1, 0, 0, -1, 0, -1, -1, -1, -1, 1, 0, -1, 0, -1, -1, -1, 0, -1, 1, -1, 0, 0, 1,
+        0, 0, 1, 1, 0, 0, 0, 0, 1, 0, 0,
+    ];
+
+    /// Divides x^37 - x - 1 modulo 3: x^3 + x^2 - 1.
+    const DIVISOR: [i16; 4] = [-1, 0, 1, 1];
+
+    /// Divides x^37 - x - 1 modulo 127: x - 41.
+    const LINEAR: [i16; 2] = [-41, 1];
+
+    /// The same numbers, as `center` gives them.
+    fn recentred<const Q: i32>(a: &mut [i16])
+        requires { IsModulus Q }
+        ensures { All (IsCentred Q) a.new }
+    {
+        for i in 0..a.len() {
+            a[i] = center::<Q>(a[i] as i32);
+        }
+    }
+
+    #[test]
+    fn inverse_modulo_127(rt: HostRuntime) -> Result<(), Fail> {
+        let mut a = A;
+        recentred::<127>(&mut a);
+        match inverse::<37, 127>(rt.alloc(), &a)? {
+            Solved::Inverse(b) => assert!(rt; b.as_slice() == A_INVERSE.as_slice()),
+            Solved::Kernel(_) => assert!(rt; false),
+        }
+        Ok(())
+    }
+
+    #[test]
+    fn inverse_modulo_3(rt: HostRuntime) -> Result<(), Fail> {
+        let mut s = S;
+        recentred::<3>(&mut s);
+        match inverse::<37, 3>(rt.alloc(), &s)? {
+            Solved::Inverse(b) => assert!(rt; b.as_slice() == S_INVERSE.as_slice()),
+            Solved::Kernel(_) => assert!(rt; false),
+        }
+        Ok(())
+    }
+
+    #[test]
+    fn no_inverse(rt: HostRuntime) -> Result<(), Fail> {
+        let mut divisor = [0i16; 37];
+        recentred::<3>(&mut divisor);
+        match inverse::<37, 3>(rt.alloc(), &divisor)? {
+            Solved::Inverse(_) => assert!(rt; false),
+            Solved::Kernel(z) => assert!(rt; z.into_vec().len() == 37),
+        }
+        divisor[..4].copy_from_slice(&DIVISOR);
+        recentred::<3>(&mut divisor);
+        match inverse::<37, 3>(rt.alloc(), &divisor)? {
+            Solved::Inverse(_) => assert!(rt; false),
+            Solved::Kernel(z) => assert!(rt; z.into_vec().len() == 37),
+        }
+        let mut linear = [0i16; 37];
+        linear[..2].copy_from_slice(&LINEAR);
+        recentred::<127>(&mut linear);
+        match inverse::<37, 127>(rt.alloc(), &linear)? {
+            Solved::Inverse(_) => assert!(rt; false),
+            Solved::Kernel(z) => assert!(rt; z.into_vec().len() == 37),
+        }
+        Ok(())
     }
 }

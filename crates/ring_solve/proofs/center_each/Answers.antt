@@ -1,9 +1,9 @@
-use Rattle.std.proofs.Common.{◌≡◌, ℕ, ◌*◌, ◌<◌, ◌≤◌, slice_index, pos, arith, to_z, of_z, w32}
+use Rattle.std.proofs.Common.{◌≡◌, ℕ, ◌*◌, ◌≤◌, slice_index, pos, arith, to_z, of_z, w32}
 use Rattle.std.specs.Int.{w16}
 use Rattle.std.proofs.lemmas.Int.{ints}
 use Rattle.std.proofs.lemmas.Nat.{mul-le}
 use Rattle.std.proofs.lemmas.List.Elements.{All-from_get_or}
-use Rattle.ring_poly.specs.Ring.{IsCongruent, IsCentred, coefficient}
+use Rattle.ring_poly.specs.Ring.{IsCongruent, IsCentred}
 use Rattle.ring_poly.proofs.Writes.{written}
 use Rattle.ring_poly.proofs.Congruences.{IsCongruent-onto}
 use Rattle.ring_solve.proofs.center_each.Goals as goal

@@ -1,10 +1,10 @@
-use Rattle.std.proofs.Common.{◌≡◌, ℕ, ◌+◌, ◌-◌, ◌*◌, ◌<◌, ◌≤◌, ◌%◌, length, slice_index, arith, refl, ⊎_elim, pos, sym, ap, ◌∙◌}
-use Rattle.std.proofs.lemmas.Nat.{mul-le, row_fits, mul-add-lt}
+use Rattle.std.proofs.Common.{◌≡◌, ◌+◌, ◌-◌, ◌*◌, ◌%◌, length, slice_index, arith, ⊎_elim, pos, ap, ◌∙◌}
+use Rattle.std.proofs.lemmas.Nat.{mul-le, row_fits}
 use Rattle.std.proofs.lemmas.Bool.{cases_lt}
 use Rattle.std.proofs.lemmas.List.{get_or_past}
 use Rattle.ring_poly.proofs.Congruences.{IsCongruent-then, IsCongruent-back}
 use Rattle.ring_solve.proofs.Residues.{rest_congruent, congruent_by}
-use Rattle.ring_solve.proofs.Eliminates.{congruent_same, plus_congruent, vanishes_before, place_after}
+use Rattle.ring_solve.proofs.Eliminates.{congruent_same, plus_congruent, vanishes_before}
 use Rattle.ring_solve.proofs.clear.Goals as goal
 
 pub overflow_mul-at : goal.overflow_mul-at

@@ -1,11 +1,10 @@
-use Rattle.std.proofs.Common.{◌≡◌, ℕ, ℤ, ◌*◌, ◌<◌, ◌≤◌, ◌<ℤ◌, slice_index, length, pos, arith, refl, sym, ap, subst, ◌∙◌, to_z, of_z, w32}
+use Rattle.std.proofs.Common.{◌≡◌, pos, arith, ap, to_z, of_z, w32}
 use Rattle.std.specs.Int.{w16}
 use Rattle.std.proofs.lemmas.Int.{ints}
 use Rattle.std.proofs.lemmas.List.Elements.{All-get_or}
-use Rattle.ring_poly.specs.Ring.{coefficient, IsCentred, IsWithin, IsCongruent}
+use Rattle.ring_poly.specs.Ring.{coefficient, IsCentred}
 use Rattle.ring_poly.proofs.Centred.{within_from_centred}
 use Rattle.ring_poly.proofs.Congruences.{IsCongruent-onto}
-use Rattle.ring_poly.proofs.Casts.{widened_16}
 use Rattle.ring_solve.proofs.Deciding.{decided_kernel, decided_inverse, some_rest}
 use Rattle.ring_solve.proofs.decide.Goals as goal
 

@@ -1,4 +1,4 @@
-use Rattle.std.proofs.Common.{◌≡◌, ℕ, ◌<◌, ◌≤◌, List, slice_index, map, pos, arith, sym, subst}
+use Rattle.std.proofs.Common.{◌≡◌, ℕ, ◌<◌, List, slice_index, map, pos, arith, sym, subst}
 use Rattle.std.proofs.lemmas.List.{take_at}
 use Rattle.ring_poly.specs.Ring.{coefficient, product, IsCongruent}
 use Rattle.ring_solve.proofs.found.Goals as goal

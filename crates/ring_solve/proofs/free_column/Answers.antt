@@ -1,4 +1,4 @@
-use Rattle.std.proofs.Common.{ℕ, ◌<◌, arith}
+use Rattle.std.proofs.Common.{arith}
 use Rattle.ring_solve.proofs.Solving.{length-le-sum}
 use Rattle.ring_solve.proofs.free_column.Goals as goal
 

@@ -1,7 +1,6 @@
-use Rattle.std.proofs.Common.{◌≡◌, ℕ, ◌+◌, ◌*◌, ◌<◌, ◌≤◌, ◌%◌, List, length, slice_index, arith, refl, pos, sym, ap, subst, ◌∙◌, sum, ℤ, ⊎_elim, below_more}
+use Rattle.std.proofs.Common.{◌+◌, length, slice_index, arith, refl, pos, sym, ap, ◌∙◌, sum, below_more}
 use Rattle.ring_poly.specs.Ring.{IsCongruent}
-use Rattle.ring_solve.specs.Elimination.{Vanishes, VanishesAtEach, IsBasis}
-use Rattle.ring_solve.proofs.Eliminates.{IsCleared, zero_rest, vanishes_zero, moved_basis, moved_each, moved_cleared}
+use Rattle.ring_solve.proofs.Eliminates.{zero_rest, vanishes_zero, moved_basis, moved_each, moved_cleared}
 use Rattle.ring_solve.proofs.insert.Goals as goal
 use Rattle.ring_solve.proofs.insert.Goals.{then-lead-ne0+else-kept-c-eq0, else-lead-ne0}
 

@@ -1,4 +1,4 @@
-use Rattle.std.proofs.Common.{◌≡◌, ℕ, ℤ, ◌<◌, ◌≤◌, List, slice_index, map, pos, arith, sym, subst, All, to_z, w32, ◌∙◌}
+use Rattle.std.proofs.Common.{ℕ, ℤ, ◌<◌, List, map, pos, arith, sym, subst, All, to_z, w32, ◌∙◌}
 use Rattle.std.proofs.lemmas.List.{take_at}
 use Rattle.ring_poly.specs.Ring.{coefficient, product, IsCongruent, IsCentred}
 use Rattle.ring_solve.proofs.Primes.{field_prime}

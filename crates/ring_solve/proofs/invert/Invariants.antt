@@ -1,4 +1,4 @@
-use Rattle.std.proofs.Common.{ℕ, pos, ◌*◌, ◌<◌}
+use Rattle.std.proofs.Common.{pos, ◌*◌, ◌<◌}
 use Rattle.ring_poly.specs.Ring.{IsCongruent}
 use Rattle.ring_solve.proofs.invert.Given as goal
 

@@ -1,6 +1,6 @@
-use Rattle.std.proofs.Common.{◌≡◌, ℕ, ℤ, ◌+◌, ◌-◌, ◌*◌, ◌<◌, ◌≤◌, List, slice_index, length, map, sum, pos, arith, refl, sym, ap, subst, ◌∙◌}
+use Rattle.std.proofs.Common.{◌≡◌, ℕ, ℤ, ◌+◌, ◌-◌, ◌*◌, length, map, pos, arith, refl, sym, ap, subst, ◌∙◌}
 use Rattle.std.proofs.lemmas.List.{length-map, length-take}
-use Rattle.ring_solve.specs.Elimination.{Vanishes, IsBasis}
+use Rattle.ring_solve.specs.Elimination.{Vanishes}
 use Rattle.ring_solve.proofs.Eliminates.{moved_basis, moved_each}
 use Rattle.ring_solve.proofs.Solving.{each_vanishes}
 use Rattle.ring_solve.proofs.Deciding.{blank_basis, sum-blank, row_coefficient}

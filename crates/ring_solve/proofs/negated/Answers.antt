@@ -1,4 +1,4 @@
-use Rattle.std.proofs.Common.{◌+◌, ◌*◌, ◌%◌, ◌/◌, ◌-◌, ◌<◌, pos, arith}
+use Rattle.std.proofs.Common.{◌+◌, ◌/◌, arith}
 use Rattle.std.proofs.lemmas.Nat.{mod_below}
 use Rattle.ring_solve.proofs.Residues.{congruent_by}
 use Rattle.ring_solve.proofs.negated.Goals as goal

@@ -1,8 +1,7 @@
-use Rattle.std.proofs.Common.{◌≡◌, ℕ, ◌+◌, ◌*◌, ◌<◌, ◌≤◌, ◌%◌, length, slice_index, arith, refl, pos, sym, ap, subst, ◌∙◌}
-use Rattle.std.proofs.lemmas.Nat.{mul-le, row_fits, mod_below}
-use Rattle.ring_poly.specs.Ring.{IsCongruent}
+use Rattle.std.proofs.Common.{◌≡◌, ℕ, ◌*◌, ◌<◌, ◌%◌, length, slice_index, arith, pos, sym, ap, ◌∙◌}
+use Rattle.std.proofs.lemmas.Nat.{mod_below}
 use Rattle.ring_poly.proofs.Congruences.{IsCongruent-then}
-use Rattle.ring_solve.proofs.Eliminates.{Replaces, congruent_same, placed_basis, placed_keeps, placed_follows, scaled_back, rest_is}
+use Rattle.ring_solve.proofs.Eliminates.{congruent_same, placed_basis, placed_keeps, placed_follows, scaled_back, rest_is}
 use Rattle.ring_solve.proofs.place.Goals as goal
 
 pub returns-clause-basis : goal.returns-clause-basis

@@ -1,4 +1,4 @@
-use Rattle.std.proofs.Common.{◌≡◌, ◌≢◌, ℕ, ◌+◌, ◌<◌, slice_index, set, length, pos, arith, sym, subst, ⊎_elim, get_or-set_same, get_or-set_other, below_more}
+use Rattle.std.proofs.Common.{◌<◌, length, pos, arith, ⊎_elim}
 use Rattle.std.proofs.lemmas.Bool.{cases_lt}
 use Rattle.std.proofs.lemmas.List.{get_or_past}
 use Rattle.ring_poly.specs.Ring.{IsCongruent, coefficient}

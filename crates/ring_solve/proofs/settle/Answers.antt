@@ -1,4 +1,4 @@
-use Rattle.std.proofs.Common.{ℕ, ◌<◌, ◌≤◌, ◌%◌, slice_index, arith, refl}
+use Rattle.std.proofs.Common.{slice_index, arith, refl}
 use Rattle.std.proofs.lemmas.Nat.{mod_below}
 use Rattle.ring_poly.proofs.Congruences.{IsCongruent-then}
 use Rattle.ring_solve.proofs.Residues.{rest_congruent}

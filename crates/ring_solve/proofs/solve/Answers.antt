@@ -1,4 +1,4 @@
-use Rattle.std.proofs.Common.{◌≡◌, ◌≢◌, ℕ, ◌+◌, ◌-◌, ◌*◌, ◌<◌, ◌≤◌, slice_index, set, length, map, pos, arith, sym, ap, subst, ◌∙◌, ⊎_elim, get_or-set_same, get_or-set_other}
+use Rattle.std.proofs.Common.{◌≡◌, ◌≢◌, ℕ, ◌-◌, ◌*◌, ◌<◌, slice_index, set, length, map, pos, arith, sym, subst, ◌∙◌, ⊎_elim, get_or-set_same, get_or-set_other}
 use Rattle.std.proofs.lemmas.Nat.{mul-le, row_fits}
 use Rattle.std.proofs.lemmas.Bool.{cases_eq}
 use Rattle.std.proofs.lemmas.List.{length-set}
