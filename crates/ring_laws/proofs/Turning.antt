@@ -1,14 +1,14 @@
 -- The map that multiplies by x, and the laws that follow from it.
-use Rattle.std.proofs.Common.{◌≡◌, ℕ, zero, suc, ◌+◌, ◌-◌, ◌*◌, ◌<◌, ◌≤◌, List, [], ◌∷◌, length, get_or, map, replicate, ⊎_elim, ℤ, pos, negsuc, ◌+ℤ◌, ◌*ℤ◌, neg_ℤ, ◌<ℤ◌, refl, sym, ap, subst, ◌∙◌, arith}
+use Rattle.std.proofs.Common.{◌≡◌, ℕ, zero, suc, ◌+◌, ◌-◌, ◌<◌, ◌≤◌, List, [], ◌∷◌, length, ℤ, pos, ◌+ℤ◌, ◌*ℤ◌, refl, sym, ap, ◌∙◌, arith}
 use Rattle.std.proofs.lemmas.Int.{ints}
-use Rattle.std.proofs.lemmas.List.{get_or_past, ext_get_or, length-map, get_or-map, get_or-replicate, length-replicate}
-use Rattle.std.proofs.Math.IntN.{*ℤ_comm, *ℤ-zero, zero-*ℤ, pos-*ℤ-pos, negsuc-*ℤ-pos}
-use Rattle.ring_poly.specs.Ring.{coefficient, shifted, convolution, reduced, product, weighted, IsCongruent, AreCongruent, IsCentred}
+use Rattle.std.proofs.lemmas.List.{get_or_past, ext_get_or, length-map, get_or-map}
+use Rattle.std.proofs.Math.IntN.{*ℤ_comm, *ℤ-zero, zero-*ℤ}
+use Rattle.ring_poly.specs.Ring.{coefficient, shifted, convolution, reduced, product, weighted, IsCongruent, AreCongruent}
 use Rattle.ring_poly.proofs.Integers.{mul_assoc, mul-add, add-mul, mul_swap}
 use Rattle.ring_poly.proofs.Weighted.{weighted-same, weighted_zero, back, entry, convolution_is, reduced_is}
 use Rattle.ring_poly.proofs.WindowSums.{coefficient-product, length-product, back_past}
 use Rattle.ring_poly.proofs.Commutes.{product_comm}
-use Rattle.ring_poly.proofs.Congruences.{IsCongruent-same, IsCongruent-back, IsCongruent-then, IsCongruent-add, IsCongruent-mul, IsCongruent-onto, times_one}
+use Rattle.ring_poly.proofs.Congruences.{IsCongruent-same, IsCongruent-then, IsCongruent-add, IsCongruent-mul, IsCongruent-onto}
 use Rattle.ring_laws.specs.Laws.{sum_of, multiple_of}
 
 -- the coefficients of x times a polynomial, modulo x^p - x - 1

@@ -1,9 +1,9 @@
 //! Laws of the ring under the key encapsulation: each is the contract of a function.
 #![tactic(auto)]
 
-ghost use Rattle.std.specs.Prelude.{◌≡◌, ℕ, ◌+◌, ◌-◌, ◌*◌, ◌<◌, ◌≤◌, length, List, ℤ, replicate, pos};
-ghost use Rattle.ring_poly.specs.Ring.{coefficient, product, AreCongruent, IsCongruent, IsCentred, IsWithin};
-ghost use Rattle.ring_laws.specs.Laws.{HasInverse, IsSmall, multiple_of, sum_of, weight_of};
+ghost use Rattle.std.specs.Prelude.{◌≡◌, ℕ, ◌<◌, length, List, ℤ};
+ghost use Rattle.ring_poly.specs.Ring.{AreCongruent, product};
+ghost use Rattle.ring_laws.specs.Laws.{multiple_of, sum_of};
 
 /// The order of the factors doesn't matter.
 pub fn commutes()
