@@ -1,0 +1,9 @@
+pub mod Integers
+pub mod Weighted
+pub mod WindowSums
+pub mod Congruences
+pub mod Casts
+pub mod Commutes
+pub mod Rows
+pub mod Writes
+pub mod Centred

@@ -1,0 +1,5 @@
+pub mod Residues
+pub mod Eliminates
+pub mod Solving
+pub mod Deciding
+pub mod Primes

@@ -1,0 +1,577 @@
+//! Inverses modulo x^p - x - 1 by linear equations.
+#![tactic(auto)]
+
+ghost use Rattle.std.specs.Prelude.{◌≡◌, ℕ, ◌+◌, ◌-◌, ◌*◌, ◌%◌, ◌^◌, ◌<◌, ◌≤◌, length, slice_index, pos, List, ℤ, sum, map, take, All, IfOk, true, false};
+ghost use Rattle.ring_poly.specs.Ring.{AreCongruent, IsCentred, IsCongruent, IsModulus, IsWithin, coefficient, product, weighted};
+ghost use Rattle.ring_solve.specs.Fields.{IsField, one, zero_of};
+ghost use Rattle.ring_solve.specs.Solutions.{Solves, coefficients_of};
+ghost use Rattle.ring_solve.specs.Elimination.{numbers_from, Vanishes, VanishesAtEach, IsBasis, IsPrime};
+
+mod answer;
+
+pub use answer::{Poly, Solved};
+use ring_poly::{center, mul_q, windows};
+use std::alloc::{AllocError, Global};
+
+/// Want of memory.
+pub type Memory = AllocError;
+
+/// How many multiples of a row are added before the sums are reduced: so many fit a `u32`.
+const STEPS: u32 = 200;
+
+/// The inverse of a number modulo a prime.
+#[inline(always)]
+fn invert(m: u32, number: u32) -> u32
+    requires prime { IsPrime m }
+    requires small { m ≤ 4591 }
+    requires low { 0 < number }
+    requires high { number < m }
+    ensures below { result < m }
+    ensures inverse { IsCongruent (pos m) (pos (result * number)) (pos 1) }
+{
+    let mut rest = number;
+    let mut factor = 1u32;
+    while rest != 1 {
+        factor = factor * (m - m / rest) % m;
+        rest = m % rest;
+    }
+    factor
+}
+
+/// Takes each number to its rest modulo m.
+#[inline(always)]
+fn reduce_row(m: u32, row: &mut [u32])
+    requires { 0 < m }
+    ensures { (j : ℕ) → slice_index row.new j ≡ slice_index row.old j % m }
+{
+    for j in 0..row.len() {
+        row[j] %= m;
+    }
+}
+
+/// Adds to the row, from a column on, a multiple of the row that begins at a place and has 0 before that column.
+fn add_multiple(factor: u32, from: usize, row: &mut [u32], basis: &[u16], at: usize)
+    requires place { at + length row.old ≤ length basis.now }
+    requires room { length basis.now < 2 ^ 62 }
+    requires before { (j : ℕ) → j < from → slice_index basis.now (at + j) ≡ 0 }
+    requires fits { (j : ℕ) → j < length row.old → slice_index row.old j + factor * slice_index basis.now (at + j) < 2 ^ 32 }
+    ensures { (j : ℕ) → j < length row.old → slice_index row.new j ≡ slice_index row.old j + factor * slice_index basis.now (at + j) }
+{
+    for j in from..row.len() {
+        row[j] += factor * basis[at + j] as u32;
+    }
+}
+
+/// Writes the row times a number, modulo m, to a place of the basis.
+#[inline(always)]
+fn keep(m: u32, scale: u32, row: &[u32], basis: &mut [u16], at: usize)
+    requires some { 0 < m }
+    requires small { m ≤ 4591 }
+    requires scale_small { scale < m }
+    requires place { at + length row.now ≤ length basis.old }
+    requires room { length basis.old < 2 ^ 62 }
+    ensures written { (j : ℕ) → j < length row.now → slice_index basis.new (at + j) ≡ slice_index row.now j % m * scale % m }
+    ensures before { (k : ℕ) → k < at → slice_index basis.new k ≡ slice_index basis.old k }
+    ensures after { (k : ℕ) → at + length row.now ≤ k → slice_index basis.new k ≡ slice_index basis.old k }
+{
+    for j in 0..row.len() {
+        basis[at + j] = (row[j] % m * scale % m) as u16;
+    }
+}
+
+/// Makes room in the sums for one more multiple: answers how many have been added since the row was last reduced.
+#[inline(always)]
+fn settle(m: u32, steps: u32, row: &mut [u32]) -> u32
+    requires some { 0 < m }
+    requires small { m ≤ 4591 }
+    requires few { steps ≤ 200 }
+    requires sums { (j : ℕ) → slice_index row.old j ≤ 4590 + steps * 21068100 }
+    ensures few { result < 200 }
+    ensures sums { (j : ℕ) → slice_index row.new j ≤ 4590 + result * 21068100 }
+    ensures same { (j : ℕ) → IsCongruent (pos m) (pos (slice_index row.new j)) (pos (slice_index row.old j)) }
+{
+    if steps < STEPS {
+        return steps;
+    }
+    reduce_row(m, row);
+    0
+}
+
+/// Clears a column of the row by the row that is kept for it, and answers as `settle`.
+#[inline(always)]
+fn clear(m: u32, lead: u32, c: usize, steps: u32, row: &mut [u32], basis: &[u16]) -> u32
+    requires small { m ≤ 4591 }
+    requires width { length row.old ≤ 761 }
+    requires column { c < length row.old }
+    requires lead { lead ≡ slice_index row.old c % m }
+    requires lead_below { lead < m }
+    requires lead_some { 0 < lead }
+    requires few { steps ≤ 200 }
+    requires sums { (j : ℕ) → slice_index row.old j ≤ 4590 + steps * 21068100 }
+    requires len { length basis.now ≡ length row.old * length row.old }
+    requires below { (k : ℕ) → slice_index basis.now k < m }
+    requires before { (j : ℕ) → j < c → slice_index basis.now (c * length row.old + j) ≡ 0 }
+    requires pivot { slice_index basis.now (c * length row.old + c) ≡ 1 }
+    ensures few { result ≤ 200 }
+    ensures sums { (j : ℕ) → slice_index row.new j ≤ 4590 + result * 21068100 }
+    ensures column { IsCongruent (pos m) (pos (slice_index row.new c)) (pos 0) }
+    ensures before { (j : ℕ) → j < c → IsCongruent (pos m) (pos (slice_index row.old j)) (pos 0) → IsCongruent (pos m) (pos (slice_index row.new j)) (pos 0) }
+    ensures vanishes { (a : List ℤ) → length a ≡ length row.old → Vanishes m a basis.now (c * length row.old) → Vanishes m a row.new 0 → Vanishes m a row.old 0 }
+{
+    let at = c * row.len();
+    let taken = settle(m, steps, row);
+    add_multiple(m - lead, c, row, basis, at);
+    taken + 1
+}
+
+/// Keeps the row for a column.
+#[inline(always)]
+fn place(m: u32, lead: u32, c: usize, row: &[u32], basis: &mut [u16], kept: &mut [u8])
+    requires prime { IsPrime m }
+    requires some { 1 < m }
+    requires small { m ≤ 4591 }
+    requires width { length row.now ≤ 761 }
+    requires column { c < length row.now }
+    requires lead { lead ≡ slice_index row.now c % m }
+    requires lead_some { 0 < lead }
+    requires cleared { (j : ℕ) → j < c → IsCongruent (pos m) (pos (slice_index row.now j)) (pos 0) }
+    requires basis { IsBasis m (length row.now) basis.old kept.old }
+    requires free { slice_index kept.old c ≡ 0 }
+    ensures basis { IsBasis m (length row.now) basis.new kept.new }
+    ensures follows { (a : List ℤ) → length a ≡ length row.now → VanishesAtEach m (length row.now) basis.new kept.new a → Vanishes m a row.now 0 }
+    ensures keeps { (a : List ℤ) → length a ≡ length row.now → VanishesAtEach m (length row.now) basis.new kept.new a → VanishesAtEach m (length row.now) basis.old kept.old a }
+    ensures count { sum kept.new ≤ sum kept.old + 1 }
+{
+    let at = c * row.len();
+    keep(m, invert(m, lead), row, basis, at);
+    kept[c] = 1;
+}
+
+/// Takes the row modulo m into the basis: as a multiple of what is left of it, once the kept rows are subtracted.
+#[inline(always)]
+fn insert(m: u32, row: &mut [u32], basis: &mut [u16], kept: &mut [u8])
+    requires prime { IsPrime m }
+    requires some { 1 < m }
+    requires small { m ≤ 4591 }
+    requires width { length row.old ≤ 761 }
+    requires row_below { (j : ℕ) → slice_index row.old j < m }
+    requires basis { IsBasis m (length row.old) basis.old kept.old }
+    ensures basis { IsBasis m (length row.old) basis.new kept.new }
+    ensures follows { (a : List ℤ) → length a ≡ length row.old → VanishesAtEach m (length row.old) basis.new kept.new a → Vanishes m a row.old 0 }
+    ensures keeps { (a : List ℤ) → length a ≡ length row.old → VanishesAtEach m (length row.old) basis.new kept.new a → VanishesAtEach m (length row.old) basis.old kept.old a }
+    ensures count { sum kept.new ≤ sum kept.old + 1 }
+{
+    let mut steps = 0u32;
+    for c in 0..row.len() {
+        let lead = row[c] % m;
+        if lead != 0 {
+            if kept[c] == 0 {
+                place(m, lead, c, row, basis, kept);
+                return;
+            }
+            steps = clear(m, lead, c, steps, row, basis);
+        }
+    }
+}
+
+/// The first column for which no row is kept.
+fn free_column(kept: &[u8]) -> usize
+    requires { sum kept.now < length kept.now }
+    ensures in_range { result < length kept.now }
+    ensures free { slice_index kept.now result ≡ 0 }
+    ensures before { (c : ℕ) → c < result → 1 ≤ slice_index kept.now c }
+{
+    for c in 0..kept.len() {
+        if kept[c] == 0 {
+            return c;
+        }
+    }
+    unreachable!()
+}
+
+/// The sum of the products of the numbers and those of the row that begins at a place.
+fn row_sum(basis: &[u16], at: usize, x: &[u32]) -> u64
+    requires place { at + length x.now ≤ length basis.now }
+    requires room { length basis.now < 2 ^ 62 }
+    requires width { length x.now ≤ 761 }
+    requires basis_below { (k : ℕ) → slice_index basis.now k ≤ 4590 }
+    requires below { (j : ℕ) → slice_index x.now j ≤ 4590 }
+    ensures { pos result ≡ weighted (map pos x.now) (numbers_from basis.now at) }
+{
+    let mut sum = 0u64;
+    for j in 0..x.len() {
+        sum += basis[at + j] as u64 * x[j] as u64;
+    }
+    sum
+}
+
+/// The number below m that brings a sum to 0 modulo m.
+fn negated(m: u32, sum: u64) -> u32
+    requires { 0 < m }
+    ensures below { result < m }
+    ensures opposite { IsCongruent (pos m) (pos (sum + result)) (pos 0) }
+{
+    let rest = (sum % m as u64) as u32;
+    if rest == 0 { 0 } else { m - rest }
+}
+
+/// Finds numbers, 1 at the free column and 0 behind it, at which each row kept for a column before it vanishes.
+fn solve(m: u32, free: usize, basis: &[u16], x: &mut [u32])
+    requires some { 1 < m }
+    requires small { m ≤ 4591 }
+    requires width { length x.old ≤ 761 }
+    requires column { free < length x.old }
+    requires len { length basis.now ≡ length x.old * length x.old }
+    requires basis_below { (k : ℕ) → slice_index basis.now k < m }
+    requires before { (c j : ℕ) → c < length x.old → j < c → slice_index basis.now (c * length x.old + j) ≡ 0 }
+    requires pivot { (c : ℕ) → c < free → slice_index basis.now (c * length x.old + c) ≡ 1 }
+    requires blank { (j : ℕ) → slice_index x.old j ≡ 0 }
+    ensures below { (j : ℕ) → slice_index x.new j < m }
+    ensures one { slice_index x.new free ≡ 1 }
+    ensures beyond { (j : ℕ) → free < j → slice_index x.new j ≡ 0 }
+    ensures vanishes { (c : ℕ) → c < free → Vanishes m (map pos x.new) basis.now (c * length x.old) }
+{
+    let width = x.len();
+    x[free] = 1;
+    for step in 0..free {
+        let c = free - 1 - step;
+        let sum = row_sum(basis, c * width, x);
+        x[c] = negated(m, sum);
+    }
+}
+
+/// Takes the rows from 1 on of a multiplication into the basis. The rows are windows of the residues, the first the last.
+#[inline(always)]
+fn eliminate(m: u32, residues: &[u32], row: &mut [u32], basis: &mut [u16], kept: &mut [u8])
+    requires prime { IsPrime m }
+    requires some { 1 < m }
+    requires small { m ≤ 4591 }
+    requires wide { 0 < length row.old }
+    requires width { length row.old ≤ 761 }
+    requires len { length residues.now + 1 ≡ 2 * length row.old }
+    requires below { (k : ℕ) → slice_index residues.now k < m }
+    requires basis { IsBasis m (length row.old) basis.old kept.old }
+    requires empty { sum kept.old ≡ 0 }
+    ensures basis { IsBasis m (length row.old) basis.new kept.new }
+    ensures count { sum kept.new + 1 ≤ length row.old }
+    ensures rows { (a : List ℤ) → length a ≡ length row.old → VanishesAtEach m (length row.old) basis.new kept.new a → (r : ℕ) → 0 < r → r < length row.old → Vanishes m a residues.now (length row.old - 1 - r) }
+{
+    let width = row.len();
+    for r in 1..width {
+        let start = width - 1 - r;
+        row.copy_from_slice(&residues[start..start + width]);
+        insert(m, row, basis, kept);
+    }
+}
+
+/// The rest modulo m of a sum of two centred coefficients.
+fn residue(m: u32, value: i16) -> u32
+    requires some { 0 < m }
+    requires small { m ≤ 4591 }
+    requires within { IsWithin 4590 value }
+    ensures below { result < m }
+    ensures congruent { IsCongruent (pos m) (pos result) value }
+{
+    let shifted = value as i32 + 4591 * m as i32;
+    shifted as u32 % m
+}
+
+/// Writes the rest modulo m of each number.
+fn reduce_numbers(m: u32, numbers: &[i16], residues: &mut [u32])
+    requires some { 0 < m }
+    requires small { m ≤ 4591 }
+    requires len { length residues.old ≡ length numbers.now }
+    requires within { (j : ℕ) → IsWithin 4590 (coefficient numbers.now j) }
+    ensures below { (j : ℕ) → slice_index residues.new j < m }
+    ensures congruent { (j : ℕ) → j < length numbers.now → IsCongruent (pos m) (pos (slice_index residues.new j)) (coefficient numbers.now j) }
+{
+    for j in 0..numbers.len() {
+        residues[j] = residue(m, numbers[j]);
+    }
+}
+
+/// Writes the centred number that is congruent to each number times a scale.
+fn center_each<const M: i32>(scale: u32, x: &[u32], out: &mut [i16])
+    requires modulus { IsModulus M }
+    requires scale_small { scale ≤ 4590 }
+    requires below { (j : ℕ) → slice_index x.now j ≤ 4590 }
+    requires len { length out.old ≡ length x.now }
+    ensures congruent { (j : ℕ) → j < length x.now → IsCongruent M (coefficient out.new j) (pos (scale * slice_index x.now j)) }
+    ensures centred { All (IsCentred M) out.new }
+{
+    for j in 0..x.len() {
+        out[j] = center::<M>((scale * x[j]) as i32);
+    }
+}
+
+/// The modulus as an unsigned number.
+#[inline(always)]
+fn modulus<const M: i32>() -> u32
+    requires { IsModulus M }
+    ensures value { pos result ≡ M }
+    ensures least { 3 ≤ result }
+    ensures most { result ≤ 4591 }
+{
+    M as u32
+}
+
+/// How many numbers stand for the rows of a multiplication, at most.
+const ROOM: usize = 1521;
+
+fn blank() -> [i16; ROOM]
+    ensures { length result ≡ 1521 }
+{
+    [0; ROOM]
+}
+
+/// Finds numbers, one of them 1, at which the coefficients from 1 on of the product with `a` are 0 modulo m.
+#[inline(always)]
+fn kernel_numbers<const P: usize>(
+    m: u32,
+    a: &[i16],
+    residues: &mut [u32],
+    row: &mut [u32],
+    basis: &mut [u16],
+    kept: &mut [u8],
+    x: &mut [u32],
+)
+    requires size { (1 < P) × (P ≤ 761) }
+    requires prime { IsPrime m }
+    requires some { 1 < m }
+    requires small { m ≤ 4591 }
+    requires a_len { length a.now ≡ P }
+    requires a_within { (j : ℕ) → IsWithin 2295 (coefficient a.now j) }
+    requires residues_len { length residues.old + 1 ≡ 2 * P }
+    requires row_len { length row.old ≡ P }
+    requires basis_len { length basis.old ≡ P * P }
+    requires kept_len { length kept.old ≡ P }
+    requires x_len { length x.old ≡ P }
+    requires basis_blank { (k : ℕ) → slice_index basis.old k ≡ 0 }
+    requires kept_blank { (k : ℕ) → slice_index kept.old k ≡ 0 }
+    requires x_blank { (k : ℕ) → slice_index x.old k ≡ 0 }
+    ensures below { (j : ℕ) → slice_index x.new j < m }
+    ensures one { (j : ℕ) × (j < P) × (slice_index x.new j ≡ 1) }
+    ensures rows { (k : ℕ) → 0 < k → k < P → IsCongruent (pos m) (coefficient (product P a.now (map pos x.new)) k) (pos 0) }
+{
+    let mut room = blank();
+    let numbers = &mut room[..2 * P - 1];
+    windows::<P>(a, numbers);
+    reduce_numbers(m, numbers, residues);
+    eliminate(m, residues, row, basis, kept);
+    let free = free_column(kept);
+    solve(m, free, basis, x);
+}
+
+/// Makes the answer of the numbers, and says whether it is an inverse.
+fn decide<const P: usize, const M: i32>(
+    m: u32,
+    a: &[i16],
+    x: &[u32],
+    answer: &mut [i16],
+    check: &mut [i16],
+) -> bool
+    requires size { (1 < P) × (P ≤ 761) }
+    requires modulus { IsModulus M }
+    requires prime { IsPrime m }
+    requires same { pos m ≡ M }
+    requires a_len { length a.now ≡ P }
+    requires a_centred { All (IsCentred M) a.now }
+    requires x_len { length x.now ≡ P }
+    requires answer_len { length answer.old ≡ P }
+    requires check_len { length check.old ≡ P }
+    requires below { (j : ℕ) → slice_index x.now j < m }
+    requires one { (j : ℕ) × (j < P) × (slice_index x.now j ≡ 1) }
+    requires rows { (k : ℕ) → 0 < k → k < P → IsCongruent (pos m) (coefficient (product P a.now (map pos x.now)) k) (pos 0) }
+    ensures centred { All (IsCentred M) answer.new }
+    ensures inverse { result ≡ true → AreCongruent M (product P a.now answer.new) (one P) }
+    ensures kernel { result ≡ false → AreCongruent M (product P a.now answer.new) (zero_of P) × (answer.new ≡ zero_of P → ⊥) }
+{
+    center_each::<M>(1, x, answer);
+    mul_q::<P, M>(a, answer, check);
+    if check[0] == 0 {
+        return false;
+    }
+    let scale = invert(m, residue(m, check[0]));
+    center_each::<M>(scale, x, answer);
+    true
+}
+
+/// `count` zeros.
+fn zeros(alloc: Global, count: usize) -> Result<Vec<u32>, AllocError>
+    ensures len { IfOk result (λ v. length v.items ≡ count) }
+    ensures blank { IfOk result (λ v. (k : ℕ) → slice_index v.items k ≡ 0) }
+{
+    vec![in alloc; 0u32; count]
+}
+
+/// `count` zeros, two bytes each.
+fn zero_words(alloc: Global, count: usize) -> Result<Vec<u16>, AllocError>
+    ensures len { IfOk result (λ v. length v.items ≡ count) }
+    ensures blank { IfOk result (λ v. (k : ℕ) → slice_index v.items k ≡ 0) }
+{
+    vec![in alloc; 0u16; count]
+}
+
+/// `count` zeros, a byte each.
+fn zero_bytes(alloc: Global, count: usize) -> Result<Vec<u8>, AllocError>
+    ensures len { IfOk result (λ v. length v.items ≡ count) }
+    ensures blank { IfOk result (λ v. (k : ℕ) → slice_index v.items k ≡ 0) }
+{
+    vec![in alloc; 0u8; count]
+}
+
+/// `count` coefficients that are 0.
+fn zero_coefficients(alloc: Global, count: usize) -> Result<Vec<i16>, AllocError>
+    ensures { IfOk result (λ v. length v.items ≡ count) }
+{
+    vec![in alloc; 0i16; count]
+}
+
+/// Finds numbers as `kernel_numbers`, in memory of their own.
+#[inline(always)]
+fn found<const P: usize>(alloc: Global, m: u32, a: &[i16]) -> Result<Vec<u32>, AllocError>
+    requires size { (1 < P) × (P ≤ 761) }
+    requires prime { IsPrime m }
+    requires some { 1 < m }
+    requires small { m ≤ 4591 }
+    requires a_len { length a.now ≡ P }
+    requires a_within { (j : ℕ) → IsWithin 2295 (coefficient a.now j) }
+    ensures len { IfOk result (λ x. length x.items ≡ P) }
+    ensures below { IfOk result (λ x. (j : ℕ) → slice_index x.items j < m) }
+    ensures one { IfOk result (λ x. (j : ℕ) × (j < P) × (slice_index x.items j ≡ 1)) }
+    ensures rows { IfOk result (λ x. (k : ℕ) → 0 < k → k < P → IsCongruent (pos m) (coefficient (product P a.now (map pos x.items)) k) (pos 0)) }
+{
+    let mut residues = zeros(alloc, 2 * P - 1)?;
+    let mut row = zeros(alloc, P)?;
+    let mut basis = zero_words(alloc, P * P)?;
+    let mut kept = zero_bytes(alloc, P)?;
+    let mut x = zeros(alloc, P)?;
+    kernel_numbers::<P>(
+        m,
+        a,
+        residues.as_mut_slice(),
+        row.as_mut_slice(),
+        basis.as_mut_slice(),
+        kept.as_mut_slice(),
+        x.as_mut_slice(),
+    );
+    Ok(x)
+}
+
+/// The inverse of a polynomial of P coefficients modulo x^P - x - 1 and M; or, where it has none, a polynomial that isn't
+/// 0 and whose product with it is 0. The error is want of memory.
+pub fn inverse<const P: usize, const M: i32>(alloc: Global, a: &[i16]) -> Result<Solved, Memory>
+    requires size { (1 < P) × (P ≤ 761) }
+    requires modulus { IsField M }
+    requires len { length a.now ≡ P }
+    requires centred { All (IsCentred M) a.now }
+    ensures solves { IfOk result (Solves P M a.now) }
+    ensures len { IfOk result (λ s. length (coefficients_of s) ≡ P) }
+    ensures centred { IfOk result (λ s. All (IsCentred M) (coefficients_of s)) }
+{
+    let m = modulus::<M>();
+    let x = found::<P>(alloc, m, a)?;
+    let mut answer = zero_coefficients(alloc, P)?;
+    let mut check = zero_coefficients(alloc, P)?;
+    let is_inverse = decide::<P, M>(
+        m,
+        a,
+        x.as_slice(),
+        answer.as_mut_slice(),
+        check.as_mut_slice(),
+    );
+    let answer = Poly::from_vec(answer);
+    if is_inverse {
+        Ok(Solved::Inverse(answer))
+    } else {
+        Ok(Solved::Kernel(answer))
+    }
+}
+
+#[cfg(test)]
+mod tests {
+    use super::*;
+    use std::test::Fail;
+
+    const A: [i16; 37] = [
+        -22, 58, -44, -13, 20, -57, -54, 42, 5, -51, -17, 11, -56, 53, 1, -36, -59, -52, -8, -10,
+        -55, -33, -52, 7, -9, -56, 42, 9, -48, 58, -35, 17, 17, 11, 58, -56, 10,
+    ];
+
+    const A_INVERSE: [i16; 37] = [
+        -31, -12, -44, 42, -50, -47, -23, -47, -25, 1, -30, -44, 32, -36, -60, -12, 36, -4, -20, 3,
+        59, -5, 1, -36, 48, 36, -48, -42, 57, -54, -4, -7, 27, -18, 48, -19, 50,
+    ];
+
+    const S: [i16; 37] = [
+        0, 0, 0, 1, 0, 0, 0, -1, -1, 1, -1, -1, 1, 0, 1, 0, 0, 1, 0, 0, 1, -1, -1, 1, 0, -1, 0, -1,
+        0, 0, -1, 1, -1, 1, 1, 0, 0,
+    ];
+
+    const S_INVERSE: [i16; 37] = [
+        0, 1, -1, -1, 0, 0, -1, 0, -1, -1, -1, -1, 1, 0, -1, 0, -1, -1, -1, 0, -1, 1, -1, 0, 0, 1,
+        0, 0, 1, 1, 0, 0, 0, 0, 1, 0, 0,
+    ];
+
+    /// Divides x^37 - x - 1 modulo 3: x^3 + x^2 - 1.
+    const DIVISOR: [i16; 4] = [-1, 0, 1, 1];
+
+    /// Divides x^37 - x - 1 modulo 127: x - 41.
+    const LINEAR: [i16; 2] = [-41, 1];
+
+    /// The same numbers, as `center` gives them.
+    fn recentred<const Q: i32>(a: &mut [i16])
+        requires { IsModulus Q }
+        ensures { All (IsCentred Q) a.new }
+    {
+        for i in 0..a.len() {
+            a[i] = center::<Q>(a[i] as i32);
+        }
+    }
+
+    #[test]
+    fn inverse_modulo_127(rt: HostRuntime) -> Result<(), Fail> {
+        let mut a = A;
+        recentred::<127>(&mut a);
+        match inverse::<37, 127>(rt.alloc(), &a)? {
+            Solved::Inverse(b) => assert!(rt; b.as_slice() == A_INVERSE.as_slice()),
+            Solved::Kernel(_) => assert!(rt; false),
+        }
+        Ok(())
+    }
+
+    #[test]
+    fn inverse_modulo_3(rt: HostRuntime) -> Result<(), Fail> {
+        let mut s = S;
+        recentred::<3>(&mut s);
+        match inverse::<37, 3>(rt.alloc(), &s)? {
+            Solved::Inverse(b) => assert!(rt; b.as_slice() == S_INVERSE.as_slice()),
+            Solved::Kernel(_) => assert!(rt; false),
+        }
+        Ok(())
+    }
+
+    #[test]
+    fn no_inverse(rt: HostRuntime) -> Result<(), Fail> {
+        let mut divisor = [0i16; 37];
+        recentred::<3>(&mut divisor);
+        match inverse::<37, 3>(rt.alloc(), &divisor)? {
+            Solved::Inverse(_) => assert!(rt; false),
+            Solved::Kernel(z) => assert!(rt; z.into_vec().len() == 37),
+        }
+        divisor[..4].copy_from_slice(&DIVISOR);
+        recentred::<3>(&mut divisor);
+        match inverse::<37, 3>(rt.alloc(), &divisor)? {
+            Solved::Inverse(_) => assert!(rt; false),
+            Solved::Kernel(z) => assert!(rt; z.into_vec().len() == 37),
+        }
+        let mut linear = [0i16; 37];
+        linear[..2].copy_from_slice(&LINEAR);
+        recentred::<127>(&mut linear);
+        match inverse::<37, 127>(rt.alloc(), &linear)? {
+            Solved::Inverse(_) => assert!(rt; false),
+            Solved::Kernel(z) => assert!(rt; z.into_vec().len() == 37),
+        }
+        Ok(())
+    }
+}
