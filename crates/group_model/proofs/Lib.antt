@@ -1,0 +1,15 @@
+pub mod ListFacts
+pub mod Pasts
+pub mod Views
+pub mod Valids
+pub mod RemoveWins
+pub mod Pairs
+pub mod Worlds
+pub mod Latest
+pub mod Agreement
+pub mod Parts
+pub mod Steps
+pub mod Moves
+pub mod Queues
+pub mod Chains
+pub mod Theorem
