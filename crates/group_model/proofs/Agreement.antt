@@ -1,5 +1,5 @@
 -- What a member knows of a message that it sees is what its maker's terms say.
-use Rattle.std.proofs.Common.{◌≡◌, ◌≢◌, inl, inr, List, [], ◌∷◌, Option, Some, refl, sym, ◌∙◌, subst, ap}
+use Rattle.std.proofs.Common.{◌≡◌, ◌≢◌, inl, inr, [], ◌∷◌, Option, Some, refl, sym, ◌∙◌, subst, ap}
 use Rattle.std.specs.Option.{option_map}
 use Rattle.group_model.specs.Sets.{Id, In, there, Bytes}
 use Rattle.group_model.specs.Messages.{Message, History, past, with_past, IsHistory}

@@ -1,12 +1,12 @@
 -- The text chains.
 
-use Rattle.std.proofs.Common.{◌≡◌, ◌≢◌, true, false, inl, inr, List, [], ◌∷◌, Option, None, refl, sym, ◌∙◌, subst, ap}
+use Rattle.std.proofs.Common.{◌≡◌, ◌≢◌, true, false, inl, inr, [], ◌∷◌, Option, None, refl, sym, ◌∙◌, subst, ap}
 use Rattle.std.specs.Str.{bytes_eq}
 use Rattle.std.specs.Option.{option_map}
 use Rattle.group_model.specs.Sets.{Id, In, here, there, Bytes}
 use Rattle.group_model.specs.Messages.{Kind, Create, Update, Remove, Add, Ack, AddAck, Text, Message, History, past}
 use Rattle.group_model.specs.Membership.{InView}
-use Rattle.group_model.specs.KeyTerms.{Term, bytes, Motion, Stays, Once, Twice, motion_bytes, secret, secret_bytes, chain_after, first_chain, next_chain}
+use Rattle.group_model.specs.KeyTerms.{bytes, secret, chain_after, first_chain, next_chain}
 use Rattle.group_model.specs.Steps.{Packet, Entry, Joined, Took, Made, packet_of, header_of, Log, hist, Setting, Given}
 use Rattle.group_model.specs.Knowledge.{learnt_at, prior_chain, chain_known}
 use Rattle.group_model.specs.SharedSecrets.{Turn, World, log_of, ratchet, answer_term, motion_of, chain_made, Moment, now, once}

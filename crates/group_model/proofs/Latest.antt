@@ -1,8 +1,8 @@
 -- The last message of a sender, as its maker and as a reader have it.
-use Rattle.std.proofs.Common.{◌≡◌, ◌≢◌, true, false, ◌⊎◌, inl, inr, List, [], ◌∷◌, Some, refl, sym, ◌∙◌, subst, ap}
+use Rattle.std.proofs.Common.{◌≡◌, ◌≢◌, true, false, ◌⊎◌, inl, inr, [], ◌∷◌, Some, refl, sym, ◌∙◌, subst, ap}
 use Rattle.std.specs.Str.{bytes_eq}
 use Rattle.std.proofs.lemmas.Slice.Eq.{bytes_eq-Decides}
-use Rattle.group_model.specs.Sets.{Id, In, here, there, Bytes}
+use Rattle.group_model.specs.Sets.{Id, In, here, there}
 use Rattle.group_model.specs.Messages.{Message, History, past, with_past}
 use Rattle.group_model.specs.Membership.{Named, InView}
 use Rattle.group_model.specs.KeyTerms.{Empty, empty_ratchet, turned_known}

@@ -13,3 +13,4 @@ pub mod Moves
 pub mod Queues
 pub mod Chains
 pub mod Theorem
+pub mod Rows

@@ -1,11 +1,10 @@
 -- Each part opens, however the two directions cross.
 use Rattle.std.proofs.Common.{◌≡◌, ℕ, ◌+◌, ◌<◌, ◌≤◌, Bool, true, false, List, [], ◌∷◌, ◌++◌, Option, Some, None, nat_eq, nat_lt, refl, sym, ◌∙◌, subst, ap, arith}
-use Rattle.std.specs.Option.{option_and_then}
 use Rattle.std.proofs.lemmas.Bool.Decides.{Decides-eqb}
 use Rattle.std.proofs.lemmas.Bool.{ltb-true, lt-ltb}
 use Rattle.group_model.specs.Sets.{Bytes}
 use Rattle.group_model.specs.Primitives.{KeyPair, Encapsulation, Content, Primitives}
-use Rattle.group_model.specs.Pairing.{Part, Draws, Event, Sent, Opened, sends, own_key, drop_by, dropped, last_opened, key_at, sealed_part, part_to, opened_by, opened, Target, target, content_of, IsTested, Sending, Sends, Joint, start, a_sends, b_sends, b_takes, a_takes}
+use Rattle.group_model.specs.Pairing.{Part, Draws, Event, Sent, Opened, sends, own_key, drop_by, dropped, last_opened, key_at, sealed_part, opened_by, opened, Target, target, content_of, IsTested, Sending, Sends, Joint, start, a_sends, b_sends, b_takes, a_takes}
 use Rattle.group_model.proofs.ListFacts.{yes_is, no_is, test}
 
 -- where a receiver stands

@@ -1,11 +1,10 @@
 -- The parts of a packet that a member makes.
-use Rattle.std.proofs.Common.{◌≡◌, true, false, cond, inl, inr, List, [], ◌∷◌, Option, Some, None, refl, sym, ◌∙◌, subst, ap}
+use Rattle.std.proofs.Common.{◌≡◌, cond, inl, inr, List, [], ◌∷◌, Option, Some, None, refl, sym, ◌∙◌, subst}
 use Rattle.std.specs.Str.{bytes_eq}
-use Rattle.std.specs.Option.{option_map, option_and_then}
 use Rattle.std.proofs.lemmas.Slice.Eq.{bytes_eq-Decides}
 use Rattle.group_model.specs.Sets.{Bytes, Id, In, here, there}
 use Rattle.group_model.specs.Pairing.{Part}
-use Rattle.group_model.specs.Steps.{Setting, Addressed, Packet, Given, Log, hist, part_for}
+use Rattle.group_model.specs.Steps.{Setting, Addressed, Packet, Given, Log, part_for}
 use Rattle.group_model.specs.Packets.{parts_of, payload_sent, part_with, part_sent, IsDue}
 use Rattle.group_model.specs.Worlds.{Makes}
 use Rattle.group_model.proofs.ListFacts.{yes_is, no_is, test, In-cases}

@@ -19,7 +19,7 @@ use Rattle.group_model.proofs.Worlds.{makes_all, own, apart, log_case, log-own, 
 use Rattle.group_model.proofs.Latest.{other_id, equal_id, moment_on, joins_only, WhenMade, past_forth, row_unnamed}
 use Rattle.group_model.proofs.Agreement.{and_then, SameMoment, one_moment, as_entry, as_row, stood, sender_is}
 use Rattle.group_model.proofs.Pairs.{opens_for_a}
-use Rattle.group_model.proofs.Parts.{gives, gives_none, present, PartFor, only_due, PartMade, each_due}
+use Rattle.group_model.proofs.Parts.{gives, gives_none, present, PartFor, only_due, each_due}
 use Rattle.group_model.proofs.Steps.{Pays, past_here, RowsClean, Cl, entry_made, hist_under}
 
 -- the two members may be exchanged

@@ -1,8 +1,8 @@
 -- "Remove wins" is a membership rule.
-use Rattle.std.proofs.Common.{◌≡◌, ◌⊎◌, inl, inr, List, [], ◌∷◌, refl, sym, subst, ap, ◌∙◌}
+use Rattle.std.proofs.Common.{◌⊎◌, inl, inr, List, [], ◌∷◌, sym, subst, ap, ◌∙◌}
 use Rattle.group_model.specs.Sets.{Id, In, here, there, has, Within}
-use Rattle.group_model.specs.Messages.{Kind, Create, Update, Remove, Add, Ack, AddAck, Text, Message, History, past, IsHistory}
-use Rattle.group_model.specs.Membership.{Names, Removes, Named, Removed, NamedOnce, IsMembershipRule, IsMember, named_by, removed_by, joined, ids_named, ids_removed, without, remove_wins}
+use Rattle.group_model.specs.Messages.{Kind, Create, Update, Remove, Add, Ack, AddAck, Text, Message, History}
+use Rattle.group_model.specs.Membership.{Names, Removes, Named, Removed, IsMembershipRule, IsMember, named_by, removed_by, joined, ids_named, ids_removed, without, remove_wins}
 use Rattle.group_model.proofs.ListFacts.{yes_is, no_is, test, has-In, In-has, In-nothing, In-cases}
 use Rattle.group_model.proofs.Views.{Named-within}
 

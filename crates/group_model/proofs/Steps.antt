@@ -1,5 +1,5 @@
 -- One more turn keeps what members know right.
-use Rattle.std.proofs.Common.{◌≡◌, ◌≢◌, cond, ◌⊎◌, inl, inr, List, [], ◌∷◌, Option, Some, None, refl, sym, ◌∙◌, subst, ap}
+use Rattle.std.proofs.Common.{◌≡◌, ◌≢◌, cond, ◌⊎◌, inl, inr, List, [], ◌∷◌, Some, None, refl, sym, ◌∙◌, subst, ap}
 use Rattle.std.specs.Str.{bytes_eq}
 use Rattle.group_model.specs.Sets.{Id, In, here, there, Bytes}
 use Rattle.group_model.specs.Messages.{with_past, Kind, Create, Update, Remove, Add, Ack, AddAck, Text, Message, History, past, Stands, IsHistory}
@@ -12,7 +12,7 @@ use Rattle.group_model.specs.Packets.{IsDue}
 use Rattle.group_model.specs.SharedSecrets.{Turn, World, log_of, ratchet, Moment, now, once}
 use Rattle.group_model.specs.Worlds.{WasMade, Makes, MayLeave, IsLawful}
 use Rattle.group_model.proofs.ListFacts.{yes_is, no_is, test, In-nothing, In-cases, In-head}
-use Rattle.group_model.proofs.Pasts.{with_past-history, past-twice, past-of_none, past-within, past-apart, past-of_nothing, deps-stand, Agree}
+use Rattle.group_model.proofs.Pasts.{with_past-history, past-twice, past-of_none, past-within, past-apart, deps-stand, Agree}
 use Rattle.group_model.proofs.Valids.{past-self}
 use Rattle.group_model.proofs.Views.{EachValid, LastOf, Hands, by_add, by_answer, first_view}
 use Rattle.group_model.proofs.Worlds.{makes_all, own, apart, log_case, log-own, log-none, moment_now, Good, good, hist-more, lawful_at, hist-since, header-stands, MadeIn, MadeIn-since, inside, Clean, clean_back, clean_on, one, before, later, chain, add_suits, no_double, create_then_add, creates, adds, naming, named_once, rooted_at, each_at}

@@ -1,10 +1,10 @@
 -- The agreement theorem.
-use Rattle.std.proofs.Common.{List, Option, None, ◌≡◌, ◌≢◌, inl, inr, ◌∷◌, Some, refl, sym, ◌∙◌, subst, ap}
+use Rattle.std.proofs.Common.{Option, None, ◌≡◌, ◌≢◌, inl, inr, ◌∷◌, Some, refl, sym, ◌∙◌, subst, ap}
 use Rattle.std.specs.Option.{option_map}
 use Rattle.group_model.specs.Sets.{Id, In, here, there, Bytes}
 use Rattle.group_model.specs.Messages.{Add, Text, Message, past}
 use Rattle.group_model.specs.Membership.{InView}
-use Rattle.group_model.specs.KeyTerms.{Term, bytes, secret, message_key}
+use Rattle.group_model.specs.KeyTerms.{bytes, secret, message_key}
 use Rattle.group_model.specs.Steps.{Packet, Given, Entry, Joined, Took, Made, packet_of, header_of, Log, hist, Setting}
 use Rattle.group_model.specs.Knowledge.{text_sealed, text_opened, text_at, text_of, chain_known, known, known_of, learnt_at, learnt_of}
 use Rattle.group_model.specs.SharedSecrets.{World, log_of, ratchet, answer_term, motion_of, Turn, Moment, now, once, chain_made}

@@ -1,7 +1,7 @@
 use Rattle.std.proofs.Common.{◌≡◌, ◌≢◌, ◌⊎◌, inl, inr, List, [], ◌∷◌, refl, sym, ◌∙◌, subst, ap}
 use Rattle.std.specs.Str.{bytes_eq}
 use Rattle.std.proofs.lemmas.Slice.Eq.{bytes_eq-Decides}
-use Rattle.group_model.specs.Sets.{Id, In, here, there, Bytes}
+use Rattle.group_model.specs.Sets.{Id, In, here, there}
 use Rattle.group_model.specs.Messages.{Kind, Create, Update, Remove, Add, Ack, AddAck, Text, Message, History, past, IsHistory}
 use Rattle.group_model.specs.Membership.{Names, Named, NamedOnce}
 use Rattle.group_model.specs.Validity.{MeetsKind, AllValid}

@@ -11,3 +11,4 @@ pub mod Packets
 pub mod SharedSecrets
 pub mod Worlds
 pub mod Agreement
+pub mod Plain

@@ -1,8 +1,8 @@
 -- The primitives, as one record with their laws. A statement that takes this record holds for each
 -- choice of them; docs/SPECIFICATION.md, "The group", "Primitives", names the choice of this program.
 -- The DCGKA paper's KDF, PKE and AEAD (its section 6).
-use Rattle.std.specs.Prelude.{◌≡◌, ℕ, Bool, true, Option, Some, None}
-use Rattle.group_model.specs.Sets.{Bytes, Id}
+use Rattle.std.specs.Prelude.{◌≡◌, ℕ, Bool, true, Option, Some}
+use Rattle.group_model.specs.Sets.{Bytes}
 
 pub record KeyPair : Type 0 where
   pub secret : Bytes

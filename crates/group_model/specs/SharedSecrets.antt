@@ -2,12 +2,12 @@
 -- These terms use nobody's parts, books or knowledge: by recursion on a sender's own messages.
 -- The DCGKA paper's key agreement correctness speaks of them (its section 5);
 -- docs/SPECIFICATION.md, "The group", "Worlds and shared secrets".
-use Rattle.std.specs.Prelude.{true, false, cond, List, [], ◌∷◌, Option, Some, None, bytes_eq, option_map}
+use Rattle.std.specs.Prelude.{true, false, cond, List, [], ◌∷◌, Option, None, bytes_eq, option_map}
 use Rattle.group_model.specs.Sets.{Bytes, Id}
 use Rattle.group_model.specs.Messages.{Kind, Create, Update, Remove, Add, Ack, AddAck, Text}
 use Rattle.group_model.specs.Primitives.{Primitives}
 use Rattle.group_model.specs.KeyTerms.{Term, Empty, Welcome, AddWord, Value, Member, Out, Motion, Stays, Once, Twice, turned, secret, bytes, chain_after, seed_of}
-use Rattle.group_model.specs.Steps.{Packet, Given, Entry, Joined, Took, Made, Log}
+use Rattle.group_model.specs.Steps.{Given, Entry, Joined, Took, Made, Log}
 
 -- a member's entry
 pub record Turn : Type 0 where

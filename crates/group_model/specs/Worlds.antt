@@ -1,8 +1,8 @@
 -- Lawful worlds: each entry is one that its member may leave, whatever outsiders send, and the
 -- premises hold, each under its name. docs/SPECIFICATION.md, "The group", "Lawful worlds".
 use Rattle.std.specs.Prelude.{List, ◌≡◌, ◌≢◌, [], ◌∷◌, Some}
-use Rattle.group_model.specs.Sets.{Bytes, Id, In}
-use Rattle.group_model.specs.Messages.{Add, Text, Message, History, past, IsHistory, AreHeads}
+use Rattle.group_model.specs.Sets.{Id, In}
+use Rattle.group_model.specs.Messages.{Add, Text, Message, IsHistory, AreHeads}
 use Rattle.group_model.specs.Membership.{Names, AreAddressees}
 use Rattle.group_model.specs.Validity.{MayFollow, AllValid}
 use Rattle.group_model.specs.Steps.{Setting, Packet, Given, Entry, Joined, Took, Made, Log, hist}
