@@ -14,3 +14,5 @@ pub mod Queues
 pub mod Chains
 pub mod Theorem
 pub mod Rows
+pub mod Settled
+pub mod Conduct

@@ -12,3 +12,4 @@ pub mod SharedSecrets
 pub mod Worlds
 pub mod Agreement
 pub mod Plain
+pub mod Conduct

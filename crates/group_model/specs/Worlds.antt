@@ -1,12 +1,12 @@
 -- Lawful worlds: each entry is one that its member may leave, whatever outsiders send, and the
 -- premises hold, each under its name. docs/SPECIFICATION.md, "The group", "Lawful worlds".
-use Rattle.std.specs.Prelude.{List, ◌≡◌, ◌≢◌, [], ◌∷◌, Some}
-use Rattle.group_model.specs.Sets.{Id, In}
-use Rattle.group_model.specs.Messages.{Add, Text, Message, IsHistory, AreHeads}
+use Rattle.std.specs.Prelude.{List, ◌≡◌, ◌≢◌, true, [], ◌∷◌, Some, None}
+use Rattle.group_model.specs.Sets.{Bytes, Id, In}
+use Rattle.group_model.specs.Messages.{Ack, Add, Text, Message, IsHistory, AreHeads}
 use Rattle.group_model.specs.Membership.{Names, AreAddressees}
 use Rattle.group_model.specs.Validity.{MayFollow, AllValid}
 use Rattle.group_model.specs.Steps.{Setting, Packet, Given, Entry, Joined, Took, Made, Log, hist}
-use Rattle.group_model.specs.Knowledge.{chain_known, text_sealed}
+use Rattle.group_model.specs.Knowledge.{answer_known, chain_known, text_sealed}
 use Rattle.group_model.specs.Packets.{parts_of, part_sent}
 use Rattle.group_model.specs.SharedSecrets.{World, log_of, Moment}
 
@@ -22,7 +22,8 @@ pub record AreHashesDistinct (w : World) : Type 0 where
       → a.id ≡ b.id → a ≡ b
 
 module _ (G : Setting) where
-  -- x with this log may make the packet
+  -- x with this log may make the packet. An ack has `took` only where its sender knows the secret that it takes, since
+  -- the operation's part to it opened.
   pub record Makes (x : Id) (l : Log) (p : Packet) (t : Given) : Type 0 where
     pub sender : p.header.sender ≡ x
     pub inside : In x G.members
@@ -33,6 +34,7 @@ module _ (G : Setting) where
     pub addressees : List Id
     pub to_whom : AreAddressees G.rule (p.header ∷ hist l) p.header addressees
     pub parts : parts_of (part_sent G x l t p.header.kind) addressees ≡ Some p.parts
+    pub took : (i : Id) → p.header.kind ≡ Ack i true → (v : Bytes) × (answer_known G x l i x None ≡ Some v)
     pub text : p.header.kind ≡ Text → text_sealed G (chain_known G x l x) t.text ≡ Some p.sealed
 
   -- x with this log may take the packet; what takes a member in without a history is a create

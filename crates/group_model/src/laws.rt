@@ -10,6 +10,7 @@ ghost use Rattle.group_model.specs.Steps.{Setting};
 ghost use Rattle.group_model.specs.Knowledge.{known_of, learnt_of};
 ghost use Rattle.group_model.specs.SharedSecrets.{World, log_of};
 ghost use Rattle.group_model.specs.Worlds.{IsLawful};
+ghost use Rattle.group_model.specs.Conduct.{MadeIsValid, OwnRatchetKnown};
 ghost use Rattle.group_model.specs.Agreement.{IsEntitled, EqualSecrets, AuthenticTexts};
 
 /// A past is the least set of messages of a history that holds the predecessors and theirs. It depends on the
@@ -60,4 +61,16 @@ pub fn equal_secrets()
 /// In every lawful world a member has, of each text that it is entitled to, the bytes that the sender sent.
 pub fn authentic_texts()
     ensures { AuthenticTexts }
+{}
+
+/// In every lawful world what a member makes that answers at once is valid over its past, by the first to the sixth
+/// rule: what its commands look at over its whole history is what the rules ask over the past.
+pub fn made_messages_are_valid()
+    ensures { MadeIsValid }
+{}
+
+/// In every lawful world a member knows its own ratchet, whatever outsiders sent it: the payload of its adds and
+/// add-acks is always there.
+pub fn own_ratchet_is_known()
+    ensures { OwnRatchetKnown }
 {}

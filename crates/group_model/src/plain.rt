@@ -526,4 +526,52 @@ mod tests {
         assert!(rt; count_of(&id(2), h) == 4);
         Ok(())
     }
+
+    #[test]
+    fn views_and_verdicts(rt: HostRuntime) -> Result<(), Fail> {
+        let alloc = rt.alloc();
+        let rows = history(alloc)?;
+        assert!(rt; rows.len() == 8);
+        let h = rows.as_slice();
+        let (remove, ack, add, update) = (&h[1], &h[2], &h[3], &h[4]);
+        assert!(rt; sees(alloc, h, add, &id(4))? && !sees(alloc, h, update, &id(4))?);
+        assert!(rt; sees(alloc, h, ack, &id(4))? && !sees(alloc, h, remove, &id(3))?);
+        assert!(rt;
+            is_recipient(alloc, h, update, &id(2))? && !is_recipient(alloc, h, update, &id(1))?
+        );
+        // 4 was added beside the update, so the ack of 2 forwards to it, and to nobody else.
+        for n in 1..4u8 {
+            assert!(rt; !is_forwarded_to(alloc, h, &id(13), ack, &id(n))?);
+        }
+        assert!(rt; is_forwarded_to(alloc, h, &id(13), ack, &id(4))?);
+        Ok(())
+    }
+
+    #[test]
+    fn what_is_unanswered(rt: HostRuntime) -> Result<(), Fail> {
+        let alloc = rt.alloc();
+        let rows = history(alloc)?;
+        let set = past(alloc, rows.as_slice(), [id(13), id(14)].as_slice())?;
+        assert!(rt; set.len() == 5);
+        let p = set.as_slice();
+        let (add, update, create) = (&p[0], &p[1], &p[4]);
+        // (the member, whether the add, the update and the create wait for it)
+        let table: [(u8, [bool; 3]); 4] = [
+            (1, [true, false, false]),
+            (2, [false, true, false]),
+            (3, [true, true, false]),
+            (4, [true, true, false]),
+        ];
+        for (n, expected) in table {
+            assert!(rt; is_unanswered(alloc, p, &id(n), add)? == expected[0]);
+            assert!(rt; is_unanswered(alloc, p, &id(n), update)? == expected[1]);
+            assert!(rt; is_unanswered(alloc, p, &id(n), create)? == expected[2]);
+            assert!(rt; !answers_none(alloc, p, &id(n))?);
+        }
+        let acked = past(alloc, rows.as_slice(), [id(11), id(12)].as_slice())?;
+        for n in 1..4u8 {
+            assert!(rt; answers_none(alloc, acked.as_slice(), &id(n))?);
+        }
+        Ok(())
+    }
 }
