@@ -1,5 +1,5 @@
 -- What a member makes that answers at once is valid.
-use Rattle.std.proofs.Common.{◌≡◌, ◌≢◌, ℕ, ◌+◌, ◌⊎◌, inl, inr, List, [], ◌∷◌, Option, Some, None, refl, sym, ◌∙◌, subst, ap, ◌++◌, true, false}
+use Rattle.std.proofs.Common.{◌≡◌, ◌≢◌, ◌+◌, inl, inr, List, [], ◌∷◌, Option, Some, None, refl, sym, ◌∙◌, subst, ap, ◌++◌, true, false}
 use Rattle.group_model.specs.Sets.{Bytes, Id, In, here, there, has}
 use Rattle.group_model.specs.Messages.{Kind, Create, Update, Remove, Add, Ack, AddAck, Text, Message, History, past, Stands, IsHistory}
 use Rattle.group_model.specs.Membership.{Names, Named}
@@ -7,14 +7,13 @@ use Rattle.group_model.specs.Validity.{IsOperation, Answers, AnswersOne, Answers
 use Rattle.group_model.specs.Steps.{Setting, Packet, Given, Entry, Joined, Took, Made, Log, hist}
 use Rattle.group_model.specs.KeyTerms.{empty_ratchet, seed_of, turned_known}
 use Rattle.group_model.specs.Knowledge.{known, answer_known, motion_known}
-use Rattle.group_model.specs.SharedSecrets.{Turn, World, log_of}
+use Rattle.group_model.specs.SharedSecrets.{World, log_of}
 use Rattle.group_model.specs.Worlds.{Joins, MayLeave, IsLawful}
-use Rattle.group_model.specs.Conduct.{asks, waiting, Follows, AnswersAtOnce, MayMake, MadeIsValid, OwnRatchetKnown}
-use Rattle.group_model.proofs.ListFacts.{yes_is, no_is, test, has-In, In-has, In-cases, In-nothing}
+use Rattle.group_model.specs.Conduct.{asks, waiting, Follows, AnswersAtOnce, MadeIsValid, OwnRatchetKnown}
+use Rattle.group_model.proofs.ListFacts.{yes_is, no_is, test, In-cases, In-nothing}
 use Rattle.group_model.proofs.Pasts.{past-taken, past-left, past-none, past-within, heads-lead_back}
 use Rattle.group_model.proofs.Valids.{valid-from, each-valid}
-use Rattle.group_model.proofs.Views.{EachValid}
-use Rattle.group_model.proofs.Worlds.{own, apart, log_case, log-none, Good, good, each_at}
+use Rattle.group_model.proofs.Worlds.{own, apart, log_case, log-none, Good, good}
 use Rattle.group_model.proofs.Latest.{known-none, known-apart, known-own, known_rows-none}
 use Rattle.group_model.proofs.Settled.{AnswersStand, settled_more, takes_one, answer_settles, joins_one}
 

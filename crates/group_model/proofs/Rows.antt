@@ -1,10 +1,11 @@
 -- Rows of the plain program, and the messages that they stand for.
-use Rattle.std.proofs.Common.{◌≡◌, ◌≢◌, ℕ, zero, suc, ◌+◌, ◌<◌, ◌≤◌, false, ◌⊎◌, inl, inr, List, [], ◌∷◌, ◌++◌, refl, sym, ◌∙◌, subst, ap, take, drop, length, get_or, arith, append_assoc, add-one, drop-cons}
+use Rattle.std.proofs.Common.{Bool, IsTrue, Result, Ok, Err, IfOk, ◌≡◌, ◌≢◌, ℕ, zero, suc, ◌+◌, ◌<◌, ◌≤◌, false, ◌⊎◌, inl, inr, List, [], ◌∷◌, ◌++◌, refl, sym, ◌∙◌, subst, ap, take, drop, length, get_or, arith, append_assoc, add-one, drop-cons}
+use Rattle.std.specs.declared.alloc.AllocError.{AllocError}
 use Rattle.std.proofs.lemmas.List.{take_more, take_all}
 use Rattle.group_model.specs.Sets.{Id, In, here, there, has}
 use Rattle.group_model.specs.Messages.{Message, History, past, Stands, IsHistory}
 use Rattle.group_model.specs.Membership.{Names, Removes, Named, Removed}
-use Rattle.group_model.specs.Validity.{IsOperation, IsUnanswered}
+use Rattle.group_model.specs.Validity.{IsOperation, IsUnanswered, AnswersOne}
 use Rattle.group_model.specs.Plain.{kind_of, message_of, history_of, HasAnswered, IsOlderThanMembership}
 use Rattle.group_model.specs.declared.plain.Row.{Row}
 use Rattle.group_model.proofs.ListFacts.{yes_is, no_is, test, has-In, In-has, In-cases, In-either, In-nothing}
@@ -155,3 +156,17 @@ waits-where h s o i k none older = record {
     brings = record { adds = e; older = record { by = o; there_is = z; has_id = refl } };
   }));
 }
+
+-- a verdict with a fact beside it
+pub waits-and : (P Q : Type 0) (r : Result Bool AllocError) → IfOk r (λ b. (IsTrue b → P) × (P → IsTrue b)) → Q
+    → IfOk r (λ b. (IsTrue b → P × Q) × (P × Q → IsTrue b))
+waits-and P Q (Ok b) e q = (λ t. (e.0 t, q), λ k. e.1 k.0)
+waits-and P Q (Err x) e q = tt
+
+-- what waits alone
+pub answers_one-where : (h : History) (s i : Id) (o : Message) → IsUnanswered h s o → o.id ≡ i → (r : Result Bool AllocError)
+    → IfOk r (λ b. (IsTrue b → (a : Message) → IsUnanswered h s a → a.id ≡ i) × (((a : Message) → IsUnanswered h s a → a.id ≡ i) → IsTrue b))
+    → IfOk r (λ b. (IsTrue b → AnswersOne h s i) × (AnswersOne h s i → IsTrue b))
+answers_one-where h s i o u e (Ok b) k =
+    (λ t. record { operation = o; waits = u; has_id = e; only = k.0 t }, λ one. k.1 (λ a w. one.only a w))
+answers_one-where h s i o u e (Err x) k = tt

@@ -1,6 +1,6 @@
 -- What a member makes that answers at once: its commands, and the answer to each operation that it takes,
 -- in the step that takes it. docs/SPECIFICATION.md, "The group", "Commands and answers".
-use Rattle.std.specs.Prelude.{◌≡◌, ℕ, ◌+◌, List, [], ◌∷◌, Option, Some, None}
+use Rattle.std.specs.Prelude.{◌≡◌, ◌+◌, [], ◌∷◌, Option, Some, None}
 use Rattle.group_model.specs.Sets.{Bytes, Id, In}
 use Rattle.group_model.specs.Messages.{Kind, Create, Update, Remove, Add, Ack, AddAck, Text, Message, AreHeads}
 use Rattle.group_model.specs.Validity.{Answers, MeetsKind, GoesOn, count_of}

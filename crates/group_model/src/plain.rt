@@ -1,12 +1,13 @@
-//! A small plain program that computes pasts, members, views and the verdict of each rule of validity on lists. It is
-//! slow, and its contracts are the definitions: later, faster code is compared with it.
+//! A small plain program that computes pasts, membership, views, recipients, forwarding and the verdicts of four rules of
+//! validity on lists: named sender, current member, next in sequence, nothing unanswered. It is slow, and its contracts
+//! are the definitions: later, faster code is compared with it.
 //! Histories are lists with the newest message first. The membership rule is "remove wins".
 
 ghost use Rattle.std.specs.Prelude.{◌≡◌, ◌≢◌, ◌+◌, ◌^◌, ◌<◌, ◌≤◌, ◌↔◌, [], ◌∷◌, ◌++◌, IsTrue, IfOk, Contains, length};
-ghost use Rattle.group_model.specs.Sets.{Id, In};
-ghost use Rattle.group_model.specs.Messages.{Add, Message, IsHistory, IsHead, AreHeads, Stands, past as past_of, with_past as with_past_of};
-ghost use Rattle.group_model.specs.Membership.{Names, Removes, Named, Removed, IsSeeded, InView, IsRecipient, IsForwardedTo, ids_named, remove_wins};
-ghost use Rattle.group_model.specs.Validity.{IsOperation, Answers, StepsRatchet, HasStepped, IsNextInSequence, MeetsKind, MayAck, MayAddAck, IsUnanswered, AnswersOne, AnswersNone, IsInTurn, FollowsHeads, IsWithinLimits, count_of as count_by};
+ghost use Rattle.group_model.specs.Sets.{In};
+ghost use Rattle.group_model.specs.Messages.{Add, Message, IsHistory, Stands, past as past_of, with_past as with_past_of};
+ghost use Rattle.group_model.specs.Membership.{Names, Removes, Named, Removed, IsSeeded, InView, IsRecipient, IsForwardedTo, remove_wins};
+ghost use Rattle.group_model.specs.Validity.{IsOperation, Answers, StepsRatchet, IsNextInSequence, IsUnanswered, AnswersOne, AnswersNone, IsInTurn, count_of as count_by};
 ghost use Rattle.group_model.specs.Plain.{kind_of, message_of, history_of, Forwards, HasAnswered, BringsInAfter, IsOlderThanMembership};
 
 use std::alloc::{AllocError, Global};
@@ -446,6 +447,104 @@ pub fn answers_none(alloc: Global, rows: &[Row], member: &[u8; 32]) -> Result<bo
     Ok(true)
 }
 
+/// Whether the operation waits for the member and has another id. Of lists that are no history nothing is said.
+fn waits_as_another(
+    alloc: Global,
+    rows: &[Row],
+    member: &[u8; 32],
+    operation: &Row,
+    id: &[u8; 32],
+) -> Result<bool, AllocError>
+    ensures { IsHistory (history_of rows.now) → In (message_of operation.now) (history_of rows.now)
+        → IfOk result (λ b. IsTrue b
+        ↔ (IsUnanswered (history_of rows.now) member.now (message_of operation.now) × (operation.now.id ≢ id.now))) }
+{
+    if same(&operation.id, id) {
+        return Ok(false);
+    }
+    is_unanswered(alloc, rows, member, operation)
+}
+
+/// Whether whatever waits for the member has this id. Of lists that are no history nothing is said.
+fn answers_no_other(
+    alloc: Global,
+    rows: &[Row],
+    member: &[u8; 32],
+    id: &[u8; 32],
+) -> Result<bool, AllocError>
+    ensures { IsHistory (history_of rows.now)
+        → IfOk result (λ b. IsTrue b
+        ↔ ((o : Message) → IsUnanswered (history_of rows.now) member.now o → o.id ≡ id.now)) }
+{
+    for row in rows {
+        let another = waits_as_another(alloc, rows, member, row, id)?;
+        if another {
+            return Ok(false);
+        }
+    }
+    Ok(true)
+}
+
+/// Whether the operation waits for the member and has this id. Of lists that are no history nothing is said.
+fn waits_as(
+    alloc: Global,
+    rows: &[Row],
+    member: &[u8; 32],
+    operation: &Row,
+    id: &[u8; 32],
+) -> Result<bool, AllocError>
+    ensures { IsHistory (history_of rows.now) → In (message_of operation.now) (history_of rows.now)
+        → IfOk result (λ b. IsTrue b
+        ↔ (IsUnanswered (history_of rows.now) member.now (message_of operation.now) × (operation.now.id ≡ id.now))) }
+{
+    if same(&operation.id, id) {
+        return is_unanswered(alloc, rows, member, operation);
+    }
+    Ok(false)
+}
+
+/// Whether exactly the operation with this id waits for the member: the fifth rule of validity for an ack or add-ack. Of
+/// lists that are no history nothing is said.
+pub fn answers_one(
+    alloc: Global,
+    rows: &[Row],
+    member: &[u8; 32],
+    id: &[u8; 32],
+) -> Result<bool, AllocError>
+    ensures { IsHistory (history_of rows.now)
+        → IfOk result (λ b. IsTrue b ↔ AnswersOne (history_of rows.now) member.now id.now) }
+{
+    for row in rows {
+        let found = waits_as(alloc, rows, member, row, id)?;
+        if found {
+            return answers_no_other(alloc, rows, member, id);
+        }
+    }
+    Ok(false)
+}
+
+/// The fifth rule of validity: nothing is unanswered, but what an ack or add-ack answers. Of lists that are no history
+/// nothing is said.
+pub fn is_in_turn(
+    alloc: Global,
+    past: &[Row],
+    sender: &[u8; 32],
+    kind: &Act,
+) -> Result<bool, AllocError>
+    ensures { IsHistory (history_of past.now)
+        → IfOk result (λ b. IsTrue b ↔ IsInTurn (history_of past.now) sender.now (kind_of kind.now)) }
+{
+    match kind {
+        Act::Ack(operation, _) => answers_one(alloc, past, sender, operation),
+        Act::AddAck(operation) => answers_one(alloc, past, sender, operation),
+        Act::Create(_) => answers_none(alloc, past, sender),
+        Act::Update => answers_none(alloc, past, sender),
+        Act::Remove(_) => answers_none(alloc, past, sender),
+        Act::Add(_) => answers_none(alloc, past, sender),
+        Act::Text => answers_none(alloc, past, sender),
+    }
+}
+
 #[cfg(test)]
 mod tests {
     use super::*;
@@ -568,7 +667,16 @@ mod tests {
             assert!(rt; is_unanswered(alloc, p, &id(n), create)? == expected[2]);
             assert!(rt; !answers_none(alloc, p, &id(n))?);
         }
+        // After 13 and 14 the member 3 owes two answers, and 1 owes one.
+        assert!(rt; is_in_turn(alloc, p, &id(1), &Act::Ack(id(14), true))?);
+        assert!(rt; !is_in_turn(alloc, p, &id(1), &Act::Ack(id(13), true))?);
+        assert!(rt; !is_in_turn(alloc, p, &id(3), &Act::AddAck(id(14)))?);
+        assert!(rt; !is_in_turn(alloc, p, &id(2), &Act::Update)?);
+        // 3 has one message in the set, its ack.
+        let first = row(alloc, 18, 3, Act::Text, &[])?;
+        assert!(rt; count_of(&first.sender, p) == 1 && !is_next_in_sequence(p, &first));
         let acked = past(alloc, rows.as_slice(), [id(11), id(12)].as_slice())?;
+        assert!(rt; is_in_turn(alloc, acked.as_slice(), &id(1), &Act::Update)?);
         for n in 1..4u8 {
             assert!(rt; answers_none(alloc, acked.as_slice(), &id(n))?);
         }
