@@ -469,14 +469,14 @@ module _ (G : Setting) where
       (λ i s. absurd (nothing s.by s.there_is))
       (λ q1 u1. Unread-empty u1 (λ p' t' a.
       let si : Since v p.header.sender (Made p' t') = among_since v p.header.sender a in
-      no_part_in_rows x p w l p' t' (moment_on k si.moment) (subst (λ z. In p'.header z) (sym mk.rows) (header-stands G lv si.moment))))
+      no_part_in_rows x p w l p' t' (moment_on k si.moment) (subst (λ z. In p'.header z) (sym (mk.rows x l.0.0.adds)) (header-stands G lv si.moment))))
       (λ p' t' v' m i s.
       let mk' : Makes G p.header.sender (log_of v' p.header.sender) p' t' = (lawful_at G l.2 m).0 in
       let same : s.by ≡ p'.header = l.1.same x p.header.sender s.by p'.header (subst (λ z. In s.by (hist z)) (sym (log-own x (Joined p) w)) s.there_is) (hist-more G _ w l p.header.sender (header-stands G l.2 m)) s.has_id in
       elim (In-cases s.there_is) [
         | inl e ↦ mk'.history.1 (record { by = p.header; there_is = i; has_id = ap (λ (z : Message). z.id) (sym e ∙ same) })
         | inr j ↦
-            let old : In p'.header (H v p.header.sender) = subst (λ z. In z (H v p.header.sender)) same (subst (λ z. In s.by z) mk.rows j) in
+            let old : In p'.header (H v p.header.sender) = subst (λ z. In z (H v p.header.sender)) same (subst (λ z. In s.by z) (mk.rows x l.0.0.adds) j) in
             let made : MadeIn G v p'.header = made_here v lv p.header.sender (RowsClean-back k rc) old (subst (λ z. In z G.members) (sym (sender_is G m l.2)) mk.inside) in
             let m2 : Moment v p.header.sender (Made made.packet made.given) made.before = subst (λ z. Moment v z (Made made.packet made.given) made.before) (sender_is G m l.2) made.moment in
             let one : SameMoment G made.packet p' made.given t' made.before v' = one_moment G (moment_on k m2) m l.2 made.is in

@@ -262,7 +262,7 @@ module _ (G : Setting) where
                     let all_made : (y : Message) → In y (H wm.before p0.header.sender) → Made? (and_then x e w) y = λ y j. made_under (once k) (cl.all y
                     (past-within (H (and_then p.header.sender (Made p t) u) p.header.sender) mb.packet.header.predecessors
                     (past_forth G {e = Made mb.packet mb.given} lm mbm p.header.sender b_hm (makes_all G mkb y (subst (λ z. In y (H z p0.header.sender)) same0.worlds j))))) in
-                    MadeIn-since G wm.moment ((clean_back G l k0 p0.header.sender all_made).all a (subst (λ z. In a z) mk0.rows i))
+                    MadeIn-since G wm.moment ((clean_back G l k0 p0.header.sender all_made).all a (subst (λ z. In a z) (mk0.rows x f0.0.adds) i))
               ]
         ]
 

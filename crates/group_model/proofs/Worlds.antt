@@ -149,7 +149,7 @@ module _ (G : Setting) where
         | inr j ↦
             let m : WasMade w p = f.1.made (member p.header (q p.header here)) in
             let mk : Makes G p.header.sender (log_of m.before p.header.sender) p m.given = (lawful_at l.2 m.moment).0 in
-            MadeIn-once (MadeIn-since m.moment ((ih.back p.header.sender (Made p m.given) m.before m.moment p.header.sender (λ b k. q b (there (subst (λ z. In b z) (sym mk.rows) k)))).all a (subst (λ z. In a z) mk.rows j)))
+            MadeIn-once (MadeIn-since m.moment ((ih.back p.header.sender (Made p m.given) m.before m.moment p.header.sender (λ b k. q b (there (subst (λ z. In b z) (sym (mk.rows x f.0.adds)) k)))).all a (subst (λ z. In a z) (mk.rows x f.0.adds) j)))
       ]
 
       step : Early Q w → (x : Id) → ((b : Message) → In b (hist (log_of (u ∷ w) x)) → Q b) → (a : Message) → In a (hist (log_of (u ∷ w) x)) → MadeIn (u ∷ w) a

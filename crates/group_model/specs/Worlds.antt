@@ -30,7 +30,7 @@ module _ (G : Setting) where
     pub history : IsHistory (p.header ∷ hist l)
     pub heads : AreHeads (hist l) p.header.predecessors
     pub valid : MayFollow G.rule G.inviter (hist l) p.header
-    pub rows : p.rows ≡ hist l
+    pub rows : (y : Id) → p.header.kind ≡ Add y → p.rows ≡ hist l
     pub addressees : List Id
     pub to_whom : AreAddressees G.rule (p.header ∷ hist l) p.header addressees
     pub parts : parts_of (part_sent G x l t p.header.kind) addressees ≡ Some p.parts
