@@ -1,0 +1,15 @@
+pub mod Sets
+pub mod Messages
+pub mod Membership
+pub mod Validity
+pub mod Primitives
+pub mod KeyTerms
+pub mod Pairing
+pub mod Steps
+pub mod Knowledge
+pub mod Packets
+pub mod SharedSecrets
+pub mod Worlds
+pub mod Agreement
+pub mod Plain
+pub mod Conduct
