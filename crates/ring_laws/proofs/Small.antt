@@ -11,23 +11,23 @@ use Rattle.ring_poly.specs.Ring.{coefficient, product, weighted, IsWithin}
 use Rattle.ring_poly.proofs.Integers.{Within-mul, Within-add, Within-zero, Within-more}
 use Rattle.ring_poly.proofs.Weighted.{back, entry}
 use Rattle.ring_poly.proofs.WindowSums.{length-product, back_past, back_high}
-use Rattle.ring_laws.specs.Laws.{IsSmall, IsShort, is_nonzero}
+use Rattle.ring_laws.specs.Laws.{AreSmall, IsShort, is_nonzero}
 use Rattle.ring_laws.proofs.Turning.{by_second}
 
-coefficient_small : (a : List ℤ) → IsSmall a → (i : ℕ) → IsWithin 1 (coefficient a i)
+coefficient_small : (a : List ℤ) → AreSmall a → (i : ℕ) → IsWithin 1 (coefficient a i)
 coefficient_small a h i =
     ⊎_elim (λ lt. All-get_or (IsWithin 1) a i (pos 0) lt h)
     (λ ge. let P : ℤ → Type 0 = λ c. IsWithin 1 c in subst P (sym (get_or_past a i (pos 0) ge)) (Within-zero 1))
     (cases_lt i (length a))
 
-back_small : (a : List ℤ) → IsSmall a → (k j : ℕ) → IsWithin 1 (back a k j)
+back_small : (a : List ℤ) → AreSmall a → (k j : ℕ) → IsWithin 1 (back a k j)
 unfolding back
 back_small a h k zero = coefficient_small a h k
 back_small a h zero (suc j) = Within-zero 1
 back_small a h (suc k) (suc j) = back_small a h k j
 
 -- of the three terms of an entry one is 0
-entry_small : (p : ℕ) (a : List ℤ) → length a ≡ p → IsSmall a → (k j : ℕ) → IsWithin 2 (entry p a k j)
+entry_small : (p : ℕ) (a : List ℤ) → length a ≡ p → AreSmall a → (k j : ℕ) → IsWithin 2 (entry p a k j)
 unfolding entry
 entry_small p a len h zero j =
     let one = back_small a h 0 j in
@@ -47,7 +47,7 @@ entry_small p a len h (suc k) j =
     (cases_lt (suc k) j)
 
 -- a coefficient that is 0 adds nothing
-weighted_short : (b : List ℤ) (g : ℕ → ℤ) → IsSmall b → ((j : ℕ) → IsWithin 2 (g j)) → IsWithin (2 * count_by is_nonzero b) (weighted b g)
+weighted_short : (b : List ℤ) (g : ℕ → ℤ) → AreSmall b → ((j : ℕ) → IsWithin 2 (g j)) → IsWithin (2 * count_by is_nonzero b) (weighted b g)
 weighted_short [] g h small = Within-zero (2 * count_by is_nonzero [])
 weighted_short (c ∷ b) g h small =
     let rest = weighted_short b (λ j. g (suc j)) (All-tail (IsWithin 1) c b h) (λ j. small (suc j)) in
@@ -61,7 +61,7 @@ weighted_short (c ∷ b) g h small =
     first (pos (suc n)) v one two = Within-mul 1 2 (pos (suc n)) v one two
     first (negsuc n) v one two = Within-mul 1 2 (negsuc n) v one two
 
-pub product_low : (p w : ℕ) (a b : List ℤ) → length a ≡ p → IsSmall a → IsShort w b → All (IsWithin (2 * w)) (product p a b)
+pub product_low : (p w : ℕ) (a b : List ℤ) → length a ≡ p → AreSmall a → IsShort w b → All (IsWithin (2 * w)) (product p a b)
 product_low p w a b len small short =
     let l = length-product p a b in
     All-from_get_or (IsWithin (2 * w)) (product p a b) (pos 0) (λ k below.

@@ -15,8 +15,8 @@ abbrev pub multiple_of : ℤ → List ℤ → List ℤ
 multiple_of c a = map (λ d. c *ℤ d) a
 
 -- each coefficient is -1, 0 or 1
-abbrev pub IsSmall : List ℤ → Type 0
-IsSmall a = All (IsWithin 1) a
+abbrev pub AreSmall : List ℤ → Type 0
+AreSmall a = All (IsWithin 1) a
 
 abbrev pub is_nonzero : ℤ → Bool
 is_nonzero (pos zero) = false
@@ -25,7 +25,7 @@ is_nonzero (negsuc n) = true
 
 -- small, and w of its coefficients aren't 0
 pub record IsShort (w : ℕ) (a : List ℤ) : Type 0 where
-  pub small : IsSmall a
+  pub small : AreSmall a
   pub weight : count_by is_nonzero a ≡ w
 
 -- some polynomial of p coefficients times a is 1 modulo m

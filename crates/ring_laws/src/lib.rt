@@ -4,7 +4,7 @@
 ghost use Rattle.std.specs.Prelude.{◌≡◌, ℕ, ◌*◌, ◌<◌, length, All, List, ℤ};
 ghost use Rattle.ring_poly.specs.Ring.{AreCongruent, IsCentred, IsCongruent, IsWithin, product};
 ghost use Rattle.ring_solve.specs.Fields.{zero_of};
-ghost use Rattle.ring_laws.specs.Laws.{HasInverse, IsShort, IsSmall, multiple_of, sum_of};
+ghost use Rattle.ring_laws.specs.Laws.{HasInverse, IsShort, AreSmall, multiple_of, sum_of};
 
 /// The order of the factors doesn't matter.
 pub fn commutes()
@@ -33,7 +33,7 @@ pub fn respects_congruence()
 
 /// Each coefficient of a small polynomial times a short one, with w coefficients that are not 0, is at most 2 w in size.
 pub fn bounds_coefficients()
-    ensures { (p w : ℕ) (a b : List ℤ) → length a ≡ p → IsSmall a → IsShort w b → All (IsWithin (2 * w)) (product p a b) }
+    ensures { (p w : ℕ) (a b : List ℤ) → length a ≡ p → AreSmall a → IsShort w b → All (IsWithin (2 * w)) (product p a b) }
 {}
 
 /// A polynomial that isn't 0 and whose product with a is 0 shows that a has no inverse, all modulo m.
