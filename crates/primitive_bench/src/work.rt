@@ -2,9 +2,12 @@
 
 ghost use Rattle.std.specs.Prelude.{◌≡◌, length, pos};
 ghost use Rattle.std.specs.List.{All};
-ghost use Rattle.ring_poly.specs.Ring.{IsCentred};
+ghost use Rattle.ring_poly.specs.Ring.{IsCentred, IsModulus};
+ghost use Rattle.ring_solve.specs.Fields.{IsField};
+ghost use Rattle.ring_solve.specs.Solutions.{coefficients_of};
 
 use crate::trees;
+use ring_solve::Solved;
 use sha2::{Digest, Sha256};
 use std::alloc::{AllocError, Global};
 
@@ -29,6 +32,10 @@ pub enum Work {
     ProductQ,
     /// The same modulo 3.
     Product3,
+    /// The inverse of a polynomial of 761 coefficients modulo 4591.
+    InverseQ,
+    /// The same modulo 3.
+    Inverse3,
 }
 
 /// How many coefficients a polynomial has.
@@ -47,6 +54,8 @@ impl Work {
             "seal" => Some(Work::Seal),
             "product-q" => Some(Work::ProductQ),
             "product-3" => Some(Work::Product3),
+            "inverse-q" => Some(Work::InverseQ),
+            "inverse-3" => Some(Work::Inverse3),
             _ => None,
         }
     }
@@ -63,6 +72,8 @@ impl Work {
             Work::Seal => Ok(seal(count)),
             Work::ProductQ => Ok(product_q(count)),
             Work::Product3 => Ok(product_3(count)),
+            Work::InverseQ => inverses::<4591>(alloc, count),
+            Work::Inverse3 => inverses::<3>(alloc, count),
         }
     }
 }
@@ -140,6 +151,43 @@ fn product_3(count: u32) -> [u8; 32] {
         last = next;
     }
     digest_of(&last)
+}
+
+/// A polynomial whose coefficients are spread over the centred numbers.
+fn scattered<const M: i32>() -> [i16; P]
+    requires { IsModulus M }
+    ensures { All (IsCentred M) result }
+{
+    let mut coefficients = [0; P];
+    let mut word = 1u32;
+    for i in 0..P {
+        word = word.wrapping_mul(1_664_525).wrapping_add(1_013_904_223);
+        coefficients[i] = ring_poly::center::<M>((word >> 16) as i32);
+    }
+    coefficients
+}
+
+/// Answers of the solver modulo M, each to the one before.
+fn inverses<const M: i32>(alloc: Global, count: u32) -> Result<[u8; 32], AllocError>
+    requires field { IsField M }
+    requires modulus { IsModulus M }
+{
+    let mut last = scattered::<M>();
+    for _ in 0..count {
+        let answer = ring_solve::inverse::<P, M>(alloc, &last)?;
+        last.copy_from_slice(coefficients(&answer));
+    }
+    Ok(digest_of(&last))
+}
+
+/// The coefficients of either answer.
+fn coefficients(answer: &Solved) -> &[i16]
+    ensures { result.now ≡ coefficients_of answer.now }
+{
+    match answer {
+        Solved::Inverse(poly) => poly.as_slice(),
+        Solved::Kernel(poly) => poly.as_slice(),
+    }
 }
 
 /// The digest of the coefficients, two bytes each.

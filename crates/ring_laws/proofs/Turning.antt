@@ -99,7 +99,7 @@ act-same p (c ∷ a) f g lt h k below =
 convolution_high : (a b : List ℤ) (k : ℕ) → length a + length b ≤ k + 1 → convolution a b k ≡ pos 0
 convolution_high a b k le = convolution_is a b k ∙ weighted-same a (back b k) (λ _. pos 0) (λ j lt. back_past b k j (omega arith)) ∙ weighted_zero a
 
-coefficient_past : (b : List ℤ) (k : ℕ) → length b ≤ k → coefficient b k ≡ pos 0
+pub coefficient_past : (b : List ℤ) (k : ℕ) → length b ≤ k → coefficient b k ≡ pos 0
 coefficient_past b k le = get_or_past b k (pos 0) le
 
 shifted_at : (f : ℕ → ℤ) (k j : ℕ) → k ≡ suc j → shifted f k ≡ f j
@@ -178,7 +178,7 @@ coefficient-sum_of (c ∷ a) (d ∷ b) (suc k) e = coefficient-sum_of a b k (ome
 coefficient-sum_of [] (d ∷ b) k e = absurd (omega arith)
 coefficient-sum_of (c ∷ a) [] k e = absurd (omega arith)
 
-by_second : (p : ℕ) (a b : List ℤ) (k : ℕ) → k < p → coefficient (product p a b) k ≡ weighted b (entry p a k)
+pub by_second : (p : ℕ) (a b : List ℤ) (k : ℕ) → k < p → coefficient (product p a b) k ≡ weighted b (entry p a k)
 by_second p a b k lt = ap (λ xs. coefficient xs k) (product_comm p a b) ∙ coefficient-product p b a k lt
 
 pub product-sum_of : (p : ℕ) (a b c : List ℤ) → length b ≡ length c → product p a (sum_of b c) ≡ sum_of (product p a b) (product p a c)

@@ -1,0 +1,5 @@
+use Rattle.ring_laws.proofs.Inverses.{centred_equal}
+use Rattle.ring_laws.proofs.separates_centred.Goals as goal
+
+pub returns : goal.returns
+returns c = centred_equal
