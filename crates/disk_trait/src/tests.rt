@@ -1,4 +1,5 @@
 use super::*;
+use crate::file::folder_of;
 use group_fields::Text;
 use std::alloc::Global;
 use std::fs;
@@ -139,4 +140,11 @@ fn file_disk_reads_and_writes(rt: HostRuntime) -> Result<(), Fail> {
     assert_eq!(rt; folder.write_at(0, b"a"), Err(DiskError::Failed));
     fs::remove_dir_all(&rt, FOLDER)?;
     Ok(())
+}
+
+#[test]
+fn a_name_lies_in_its_folder(rt: HostRuntime) {
+    for (path, folder) in [("a", "."), ("/a", "/"), ("b/a", "b"), ("/c/b/a", "/c/b")] {
+        assert_eq!(rt; folder_of(path), folder, "{path}");
+    }
 }
