@@ -1,6 +1,7 @@
 -- What a disk in memory shows of itself.
 use Rattle.std.specs.Prelude.{ℕ, List}
 use Rattle.disk_trait.specs.declared.memory.MemDisk.{MemDisk}
+use Rattle.group_fields.specs.declared.counts.Counts.{Counts}
 use Rattle.disk_trait.specs.Replay.{Standing, fresh, replayed}
 
 -- what a read gives
@@ -18,3 +19,7 @@ failing_calls disk = disk.failing.items
 -- how many calls there were
 abbrev pub calls : MemDisk → ℕ
 calls disk = disk.asked
+
+-- how often it has failed, and wanted memory
+abbrev pub counted : MemDisk → Counts
+counted disk = disk.counts

@@ -139,7 +139,7 @@ fn create<R: Files>(rt: &R, path: &str) -> io::Result<R::File> {
 }
 
 /// The folder that a path's last name lies in.
-fn folder_of(path: &str) -> &str {
+pub(crate) fn folder_of(path: &str) -> &str {
     match path.rsplit_once('/') {
         None => ".",
         Some(("", _)) => "/",

@@ -5,6 +5,8 @@
 mod disk;
 mod file;
 mod memory;
+#[cfg(test)]
+mod tests;
 
 pub use disk::{Disk, DiskError};
 pub use file::FileDisk;

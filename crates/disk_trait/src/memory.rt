@@ -122,7 +122,7 @@ pub struct MemDisk {
 }
 
 impl MemDisk {
-    ghost use Rattle.disk_trait.specs.MemDisk.{content, standing, failing_calls, calls};
+    ghost use Rattle.disk_trait.specs.MemDisk.{content, standing, failing_calls, calls, counted};
 
     /// An empty disk of which the calls with these numbers, from 1, fail.
     pub fn new(alloc: Global, failing: &[u32]) -> Result<MemDisk, Memory>
@@ -130,6 +130,7 @@ impl MemDisk {
         ensures settled { IfOk result (λ disk. LeavesOnly [] (IsImage (standing disk))) }
         ensures failing { IfOk result (λ disk. failing_calls disk ≡ failing.now) }
         ensures unasked { IfOk result (λ disk. calls disk ≡ 0) }
+        ensures uncounted { IfOk result (λ disk. counted disk ≡ record { faults = 0; wants = 0 }) }
     {
         Ok(MemDisk::with_failing(alloc, failing.to_vec(alloc)?))
     }
@@ -139,6 +140,8 @@ impl MemDisk {
         ensures empty { content result ≡ [] }
         ensures settled { LeavesOnly [] (IsImage (standing result)) }
         ensures honest { failing_calls result ≡ [] }
+        ensures unasked { calls result ≡ 0 }
+        ensures uncounted { counted result ≡ record { faults = 0; wants = 0 } }
     {
         MemDisk::with_failing(alloc, Vec::new(alloc))
     }
@@ -149,6 +152,7 @@ impl MemDisk {
         ensures first { result.first.items ≡ [] }
         ensures failing { result.failing.items ≡ failing.items }
         ensures unasked { result.asked ≡ 0 }
+        ensures uncounted { result.counts ≡ record { faults = 0; wants = 0 } }
     {
         MemDisk {
             alloc,
@@ -211,6 +215,7 @@ impl MemDisk {
         ensures settled { standing self.new ≡ fresh (content self.new) }
         ensures failing { failing_calls self.new ≡ failing_calls self.old }
         ensures asked { calls self.new ≡ calls self.old }
+        ensures counts { counted self.new ≡ counted self.old }
     {
         crash_through(&mut self.first, &self.changes, image);
         self.changes.clear();

@@ -6,6 +6,8 @@ mod bytes;
 mod counts;
 mod cursor;
 mod ids;
+#[cfg(test)]
+mod tests;
 mod text;
 
 pub use bytes::Bytes;

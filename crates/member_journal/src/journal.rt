@@ -49,7 +49,8 @@ impl<D: Disk> Journal<D> {
 
     /// How many records there are.
     pub fn count(&self) -> u32
-        ensures { result ≡ length (places self.now) }
+        ensures count { result ≡ length (places self.now) }
+        ensures few { result ≤ most_records }
     {
         self.layout.rooms.len() as u32
     }
@@ -90,6 +91,8 @@ impl<D: Disk> Journal<D> {
         requires not_long { length payload.now ≤ longest_record }
         ensures appended { D.told → IfOk result (λ journal. entries D.content journal ≡ entries D.content self ++ record { place = next_place self; bytes = payload.now } ∷ []) }
         ensures records { D.told → IfOk result (λ journal. journal_of (D.content (disk_of journal)) ≡ Ok (entries D.content journal)) }
+        ensures places { IfOk result (λ journal. places journal ≡ places self ++ next_place self ∷ []) }
+        ensures next { IfOk result (λ journal. next_place journal ≡ next_place self + 5 + length payload.now) }
         ensures settled { D.told → IfOk result (λ journal. LeavesOnly (D.content (disk_of journal)) (D.image (disk_of journal))) }
 
         // A crash at any moment of the call leaves the records before it, with the new one or without.

@@ -7,6 +7,8 @@ mod journal;
 mod layout;
 mod room;
 mod scan;
+#[cfg(test)]
+mod tests;
 
 pub use fault::JournalFault;
 pub use journal::Journal;
