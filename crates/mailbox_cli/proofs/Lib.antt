@@ -1,0 +1,4 @@
+pub mod Endings
+pub mod Reading
+pub mod Records
+pub mod Stories

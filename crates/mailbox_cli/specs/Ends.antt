@@ -1,0 +1,33 @@
+-- How a run of `init` ends.
+use Rattle.std.specs.Prelude.{◌≡◌, ℕ, [], ◌∷◌, ◌++◌, Some, Ok, Err}
+use Rattle.group_fields.specs.Counts.{IsRaised}
+use Rattle.disk_trait.specs.declared.disk.Disk.{Ghosts as DiskGhosts}
+use Rattle.mail_trait.specs.declared.entropy.Entropy.{Ghosts as EntropyGhosts}
+use Rattle.mail_trait.specs.declared.sink.Sink.{Ghosts as SinkGhosts}
+use Rattle.mailbox_cli.specs.Lines.{made_line, already_made_line, not_journal_line}
+use Rattle.mailbox_cli.specs.Says.{ended_with}
+use Rattle.mailbox_cli.specs.Steps.{Step, steps_of}
+use Rattle.mailbox_cli.specs.declared.ended.Ended.{Ended}
+use Rattle.mailbox_cli.specs.declared.ended.Refusal.TheVariants.{AlreadyMade, NotJournal}
+
+-- the refusal with status 8
+abbrev pub not_journal_at : ℕ → Ended
+not_journal_at place = record { status = 8; refusal = Some (NotJournal place) }
+
+-- Each end of a run of `init` with its cause: the statuses are 0, 3, 4, 6, 7, 8 and 9, and no other.
+pub data Ends {D E S : Type 0} (disks : DiskGhosts D) (sources : EntropyGhosts E) (sinks : SinkGhosts S) (disk disk' : D) (entropy entropy' : E) (out out' : S) (ended : Ended) : Type 0 where
+  -- 0: the member is made, and the line says so.
+  made : ended ≡ ended_with 0 → (sinks.told → sinks.written out' ≡ sinks.written out ++ made_line)
+      → (disks.told → (step : Step) × (steps_of (disks.content disk') ≡ Ok (step ∷ []))) → Ends disks sources sinks disk disk' entropy entropy' out out' ended
+  -- 3: there was a member.
+  already_made : ended ≡ record { status = 3; refusal = Some AlreadyMade } → (sinks.told → sinks.written out' ≡ sinks.written out ++ already_made_line)
+      → (disks.told → (step : Step) × (steps_of (disks.content disk) ≡ Ok (step ∷ []))) → Ends disks sources sinks disk disk' entropy entropy' out out' ended
+  -- 4, 6, 7: the disk, the source of random bytes, the output failed, and counted it.
+  disk_failed : ended ≡ ended_with 4 → IsRaised (disks.counts disk).faults (disks.counts disk').faults → Ends disks sources sinks disk disk' entropy entropy' out out' ended
+  source_failed : ended ≡ ended_with 6 → IsRaised (sources.counts entropy).faults (sources.counts entropy').faults → Ends disks sources sinks disk disk' entropy entropy' out out' ended
+  output_failed : ended ≡ ended_with 7 → IsRaised (sinks.counts out).faults (sinks.counts out').faults → Ends disks sources sinks disk disk' entropy entropy' out out' ended
+  -- 8: the bytes of the disk are no journal at this place.
+  not_journal : (place : ℕ) → ended ≡ not_journal_at place → (sinks.told → sinks.written out' ≡ sinks.written out ++ not_journal_line place)
+      → (disks.told → steps_of (disks.content disk) ≡ Err place) → Ends disks sources sinks disk disk' entropy entropy' out out' ended
+  -- 9: memory ran out.
+  no_memory : ended ≡ ended_with 9 → Ends disks sources sinks disk disk' entropy entropy' out out' ended
