@@ -1,5 +1,5 @@
 -- How a run of `init` ends, from the ends of its parts.
-use Rattle.std.proofs.Common.{◌≡◌, ◌⊎◌, ⊎_elim, ℕ, List, ◌++◌, Err, refl, sym, ◌∙◌, ap, subst}
+use Rattle.std.proofs.Common.{◌≡◌, ◌⊎◌, inl, inr, ⊎_elim, ℕ, List, ◌++◌, Err, refl, sym, ◌∙◌, ap, subst}
 use Rattle.group_fields.specs.Counts.{IsRaised}
 use Rattle.group_fields.specs.declared.counts.Counts.{Counts}
 use Rattle.disk_trait.specs.declared.disk.Disk.{Ghosts as DiskGhosts}
@@ -19,31 +19,33 @@ module _ {D E S : Type 0} (disks : DiskGhosts D) (sources : EntropyGhosts E) (si
       → (result ≡ ended → (sinks.told → sinks.written out' ≡ sinks.written out ++ line) → Ends disks sources sinks disk disk' entropy entropy' out out' result)
       → Ends disks sources sinks disk disk' entropy entropy' out out' result
   said line ended result says whole =
-      ⊎_elim (λ yes. whole yes.0 yes.2) (λ rest. ⊎_elim (λ failed. output_failed failed.0 failed.1) (λ lacked. no_memory lacked.0) rest) says.answer
+      ⊎_elim (λ yes. whole yes.0 yes.2) (λ rest. ⊎_elim (λ failed. output_failed failed.0 failed.1) (λ lacked. no_memory lacked.0 (inr (inr (inr lacked.1)))) rest) says.answer
 
   -- the journal did not open
   pub opening_failed : (fault : JournalFault) (result : Ended) → (fault ≡ DiskFault → (result ≡ ended_with 4) × (out' ≡ out)) → (fault ≡ NoMemory → (result ≡ ended_with 9) × (out' ≡ out))
       → ((place : ℕ) → fault ≡ NotJournal place → (result ≡ ended_with 9) ⊎ Says sinks.told sinks.written sinks.counts sinks.follows out out' (not_journal_line place) (not_journal_at place) result)
-      → (fault ≡ DiskFault → IsRaised (disks.counts disk).faults (disks.counts disk').faults) → (disks.told → (place : ℕ) → fault ≡ NotJournal place → steps_of (disks.content disk) ≡ Err place)
+      → (sources.told → sources.given entropy' ≡ sources.given entropy) → (fault ≡ DiskFault → IsRaised (disks.counts disk).faults (disks.counts disk').faults) → (disks.told → (place : ℕ) → fault ≡ NotJournal place → steps_of (disks.content disk) ≡ Err place)
       → Ends disks sources sinks disk disk' entropy entropy' out out' result
-  opening_failed DiskFault result failed lacked told raised there = disk_failed (failed refl).0 (raised refl)
-  opening_failed NoMemory result failed lacked told raised there = no_memory (lacked refl).0
-  opening_failed (NotJournal place) result failed lacked told raised there = ⊎_elim (λ want. no_memory want)
+  opening_failed DiskFault result failed lacked told unasked raised there = disk_failed (failed refl).0 (raised refl)
+  opening_failed NoMemory result failed lacked told unasked raised there = no_memory (lacked refl).0 (inl unasked)
+  opening_failed (NotJournal place) result failed lacked told unasked raised there = ⊎_elim (λ want. no_memory want (inl unasked))
       (λ says. said (not_journal_line place) (not_journal_at place) result says (λ is line. not_journal place is line (λ told'. there told' place refl)))
       (told place refl)
 
   -- the record was not stored
   pub append_failed : (fault : JournalFault) (result : Ended) → (fault ≡ DiskFault → result ≡ ended_with 4) → (fault ≡ NoMemory → result ≡ ended_with 9) → ((place : ℕ) → fault ≡ NotJournal place → ⊥)
-      → (fault ≡ DiskFault → IsRaised (disks.counts disk).faults (disks.counts disk').faults) → Ends disks sources sinks disk disk' entropy entropy' out out' result
-  append_failed DiskFault result failed lacked never raised = disk_failed (failed refl) (raised refl)
-  append_failed NoMemory result failed lacked never raised = no_memory (lacked refl)
-  append_failed (NotJournal place) result failed lacked never raised = absurd (never place refl)
+      → (fault ≡ DiskFault → IsRaised (disks.counts disk).faults (disks.counts disk').faults) → (fault ≡ NoMemory → IsRaised (disks.counts disk).wants (disks.counts disk').wants)
+      → Ends disks sources sinks disk disk' entropy entropy' out out' result
+  append_failed DiskFault result failed lacked never raised want = disk_failed (failed refl) (raised refl)
+  append_failed NoMemory result failed lacked never raised want = no_memory (lacked refl) (inr (inl (want refl)))
+  append_failed (NotJournal place) result failed lacked never raised want = absurd (never place refl)
 
 -- the journal was opened before
 pub ends_after_opening : {D E S : Type 0} (disks : DiskGhosts D) (sources : EntropyGhosts E) (sinks : SinkGhosts S) (disk opened disk' : D) (entropy entropy' : E) (out out' : S) (ended : Ended)
     → disks.counts opened ≡ disks.counts disk → (disks.told → disks.content opened ≡ disks.content disk)
     → Ends disks sources sinks opened disk' entropy entropy' out out' ended → Ends disks sources sinks disk disk' entropy entropy' out out' ended
-ends_after_opening disks sources sinks disk opened disk' entropy entropy' out out' ended counts same (made is says there) = made is says there
+ends_after_opening disks sources sinks disk opened disk' entropy entropy' out out' ended counts same (made is says absent there) =
+    made is says (λ told. sym (ap steps_of (same told)) ∙ absent told) there
 ends_after_opening disks sources sinks disk opened disk' entropy entropy' out out' ended counts same (already_made is says there) =
     already_made is says (λ told. ((there told).0, sym (ap steps_of (same told)) ∙ (there told).1))
 ends_after_opening disks sources sinks disk opened disk' entropy entropy' out out' ended counts same (disk_failed is raised) =
@@ -52,4 +54,6 @@ ends_after_opening disks sources sinks disk opened disk' entropy entropy' out ou
 ends_after_opening disks sources sinks disk opened disk' entropy entropy' out out' ended counts same (output_failed is raised) = output_failed is raised
 ends_after_opening disks sources sinks disk opened disk' entropy entropy' out out' ended counts same (not_journal place is says there) =
     not_journal place is says (λ told. sym (ap steps_of (same told)) ∙ there told)
-ends_after_opening disks sources sinks disk opened disk' entropy entropy' out out' ended counts same (no_memory is) = no_memory is
+ends_after_opening disks sources sinks disk opened disk' entropy entropy' out out' ended counts same (no_memory is before) =
+    no_memory is (⊎_elim (λ unasked. inl unasked) (λ wanting. inr (⊎_elim
+    (λ disk_lacked. inl (subst (λ (counts : Counts). IsRaised counts.wants (disks.counts disk').wants) counts disk_lacked)) (λ rest. inr rest) wanting)) before)

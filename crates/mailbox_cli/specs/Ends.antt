@@ -1,5 +1,5 @@
 -- How a run of `init` ends.
-use Rattle.std.specs.Prelude.{◌≡◌, ℕ, [], ◌∷◌, ◌++◌, Some, Ok, Err}
+use Rattle.std.specs.Prelude.{◌≡◌, ◌⊎◌, ℕ, [], ◌∷◌, ◌++◌, Some, Ok, Err}
 use Rattle.group_fields.specs.Counts.{IsRaised}
 use Rattle.disk_trait.specs.declared.disk.Disk.{Ghosts as DiskGhosts}
 use Rattle.mail_trait.specs.declared.entropy.Entropy.{Ghosts as EntropyGhosts}
@@ -14,11 +14,19 @@ use Rattle.mailbox_cli.specs.declared.ended.Refusal.TheVariants.{AlreadyMade, No
 abbrev pub not_journal_at : ℕ → Ended
 not_journal_at place = record { status = 8; refusal = Some (NotJournal place) }
 
+-- a device lacked memory
+abbrev pub IsWanting : {D E S : Type 0} → DiskGhosts D → EntropyGhosts E → SinkGhosts S → D → D → E → E → S → S → Type 0
+IsWanting disks sources sinks disk disk' entropy entropy' out out' =
+    IsRaised (disks.counts disk).wants (disks.counts disk').wants
+    ⊎ (IsRaised (sources.counts entropy).wants (sources.counts entropy').wants
+    ⊎ IsRaised (sinks.counts out).wants (sinks.counts out').wants)
+
 -- Each end of a run of `init` with its cause: the statuses are 0, 3, 4, 6, 7, 8 and 9, and no other.
 pub data Ends {D E S : Type 0} (disks : DiskGhosts D) (sources : EntropyGhosts E) (sinks : SinkGhosts S) (disk disk' : D) (entropy entropy' : E) (out out' : S) (ended : Ended) : Type 0 where
-  -- 0: the member is made, and the line says so.
+  -- 0: there was no member, it is made, and the line says so.
   made : ended ≡ ended_with 0 → (sinks.told → sinks.written out' ≡ sinks.written out ++ made_line)
-      → (disks.told → (step : Step) × (steps_of (disks.content disk') ≡ Ok (step ∷ []))) → Ends disks sources sinks disk disk' entropy entropy' out out' ended
+      → (disks.told → steps_of (disks.content disk) ≡ Ok []) → (disks.told → (step : Step) × (steps_of (disks.content disk') ≡ Ok (step ∷ [])))
+      → Ends disks sources sinks disk disk' entropy entropy' out out' ended
   -- 3: there was a member.
   already_made : ended ≡ record { status = 3; refusal = Some AlreadyMade } → (sinks.told → sinks.written out' ≡ sinks.written out ++ already_made_line)
       → (disks.told → (step : Step) × (steps_of (disks.content disk) ≡ Ok (step ∷ []))) → Ends disks sources sinks disk disk' entropy entropy' out out' ended
@@ -29,5 +37,6 @@ pub data Ends {D E S : Type 0} (disks : DiskGhosts D) (sources : EntropyGhosts E
   -- 8: the bytes of the disk are no journal at this place.
   not_journal : (place : ℕ) → ended ≡ not_journal_at place → (sinks.told → sinks.written out' ≡ sinks.written out ++ not_journal_line place)
       → (disks.told → steps_of (disks.content disk) ≡ Err place) → Ends disks sources sinks disk disk' entropy entropy' out out' ended
-  -- 9: memory ran out.
-  no_memory : ended ≡ ended_with 9 → Ends disks sources sinks disk disk' entropy entropy' out out' ended
+  -- 9: memory ran out, before random bytes were drawn or in a device.
+  no_memory : ended ≡ ended_with 9 → (sources.told → sources.given entropy' ≡ sources.given entropy) ⊎ IsWanting disks sources sinks disk disk' entropy entropy' out out'
+      → Ends disks sources sinks disk disk' entropy entropy' out out' ended

@@ -18,7 +18,7 @@ returns-else-count-gt0-clause-stored g c =
 pub returns-in-Err-clause-ends : goal.returns-in-Err-clause-ends
 returns-in-Err-clause-ends g c =
     opening_failed g.D.Disk g.E.Entropy g.S.Sink c.args.disk c.in-Err.disk c.args.entropy.now c.args.entropy.now c.args.out.now c.end_opening-ended.new.out
-    c.in-Err.fault c.end_opening-ended.result c.end_opening-ended.ensures.disk c.end_opening-ended.ensures.memory c.end_opening-ended.ensures.not_journal
+    c.in-Err.fault c.end_opening-ended.result c.end_opening-ended.ensures.disk c.end_opening-ended.ensures.memory c.end_opening-ended.ensures.not_journal (λ told. refl)
     (λ is. c.in-Err.ensures.cause.fault (ap (λ (f : JournalFault). let r : Result (Journal g.row.D.Denot g.D.Disk) JournalFault = Err f in r) is)) c.in-Err.ensures.not_journal
 
 pub returns-else-count-gt0-clause-ends : goal.returns-else-count-gt0-clause-ends

@@ -41,13 +41,14 @@ returns-in-Err-clause-ends g c =
     c.in-Err.fault c.end_append.result c.end_append.ensures.disk c.end_append.ensures.memory
     (λ place is. c.in-Err.ensures.cause.journal place (ap (λ (f : JournalFault). let r : Result (Journal g.row.D.Denot g.D.Disk) JournalFault = Err f in r) is))
     (λ is. c.in-Err.ensures.cause.fault (ap (λ (f : JournalFault). let r : Result (Journal g.row.D.Denot g.D.Disk) JournalFault = Err f in r) is))
+    (λ is. c.in-Err.ensures.cause.want (ap (λ (f : JournalFault). let r : Result (Journal g.row.D.Denot g.D.Disk) JournalFault = Err f in r) is))
 
 pub returns-in-Ok-append-clause-ends : goal.returns-in-Ok-append-clause-ends
 returns-in-Ok-append-clause-ends g c =
     let step : Step = record { inviter = inviter_of c.args.inviter; random = c.seed32.new.into } in
     said g.D.Disk g.E.Entropy g.S.Sink (disk_of c.args.journal) c.close-in-Ok-append.result c.args.entropy.now c.seed32.new.self c.args.out.now c.print_line-ended.new.out
     made_line (ended_with 0) c.print_line-ended.result c.print_line-ended.ensures
-    (λ is line. made is line (λ told. (
+    (λ is line. made is line c.requires.absent (λ told. (
       step,
       one_appended c.args.journal c.in-Ok-append.journal c.close-in-Ok-append.result c.init_record.result step c.requires.none c.init_record.ensures.record c.init_record.ensures.inviter
           c.init_record.ensures.random c.close-in-Ok-append.ensures (c.in-Ok-append.ensures.appended told) (c.in-Ok-append.ensures.records told),
