@@ -5,6 +5,8 @@ mod command;
 mod ended;
 mod run;
 mod step;
+#[cfg(test)]
+mod tests;
 
 pub use command::{Command, read_command};
 use disk_trait::FileDisk;
