@@ -1,0 +1,2 @@
+pub mod Encapsulated
+pub mod Words
