@@ -1,0 +1,165 @@
+//! The two sets.
+
+ghost use Rattle.std.specs.Prelude.{◌≡◌, ℕ};
+ghost use Rattle.ntru_model.specs.Parameters.{drill37, sntrup761};
+
+use crate::blanks::blank;
+use crate::encodings::read_public;
+use crate::pair::TestedPair;
+use crate::{encapsulation, making, reading};
+use kem_trait::{Kem, KemRefusal, Words};
+use std::alloc::{AllocError, Global};
+
+/// The set with p = 761, q = 4591 and w = 286.
+pub struct Sntrup761;
+
+/// The set with p = 37, q = 127 and w = 7, for rehearsals: it has no security.
+pub struct Drill37;
+
+impl Kem for Sntrup761 {
+    ghost use Rattle.ntru_prime.specs.Keys.{decapsulated, encapsulated, is_public, is_secret, made, public_in};
+    ghost use Rattle.ntru_prime.specs.PairKeys.{secret_of};
+
+    ghost SET = { 1 };
+
+    ghost PUBLIC_LEN = { 1158 };
+
+    ghost SECRET_LEN = { 1763 };
+
+    ghost CIPHER_LEN = { 1039 };
+
+    const SET: u8 = 1;
+    const PUBLIC_LEN: usize = 1158;
+    const SECRET_LEN: usize = 1763;
+    const CIPHER_LEN: usize = 1039;
+
+    type Pair = TestedPair<761, 4591, 286>;
+
+    ghost made = { made sntrup761 };
+
+    ghost is_secret = { is_secret sntrup761 };
+
+    ghost public_in = { public_in sntrup761 };
+
+    ghost is_public = { is_public sntrup761 };
+
+    ghost encapsulated = { encapsulated sntrup761 };
+
+    ghost decapsulated = { decapsulated sntrup761 };
+
+    ghost secret_key = { secret_of };
+
+    fn make<V: Words>(alloc: Global, words: &mut V) -> Result<TestedPair<761, 4591, 286>, KemRefusal> {
+        making::make::<761, 4591, 286, V>(alloc, words)
+    }
+
+    fn pair_from_secret(
+        alloc: Global,
+        secret: &[u8],
+    ) -> Result<Option<TestedPair<761, 4591, 286>>, AllocError> {
+        reading::from_secret::<761, 4591, 286>(alloc, secret)
+    }
+
+    fn secret(pair: &TestedPair<761, 4591, 286>, into: &mut [u8]) {
+        into.copy_from_slice(pair.secret.as_slice());
+    }
+
+    fn public(pair: &TestedPair<761, 4591, 286>, into: &mut [u8]) {
+        reading::copy_public::<761, 4591, 286>(pair, into)
+    }
+
+    fn public_ok(public: &[u8]) -> bool {
+        let mut h = blank::<761>();
+        read_public::<761, 4591, 286>(public, &mut h).is_some()
+    }
+
+    fn encap<V: Words>(public: &[u8], words: &mut V, cipher: &mut [u8]) -> [u8; 32] {
+        encapsulation::encap::<761, 4591, 286, V>(public, words, cipher)
+    }
+
+    fn decap(pair: &TestedPair<761, 4591, 286>, cipher: &[u8]) -> Option<[u8; 32]> {
+        encapsulation::decap::<761, 4591, 286>(pair, cipher)
+    }
+
+    ghost pairs_are_tested = { ? };
+
+    ghost made_is_tested = { ? };
+
+    ghost public_is_public = { ? };
+
+    ghost decapsulates = { ? };
+}
+
+impl Kem for Drill37 {
+    ghost use Rattle.ntru_prime.specs.Keys.{decapsulated, encapsulated, is_public, is_secret, made, public_in};
+    ghost use Rattle.ntru_prime.specs.PairKeys.{secret_of};
+
+    ghost SET = { 2 };
+
+    ghost PUBLIC_LEN = { 33 };
+
+    ghost SECRET_LEN = { 95 };
+
+    ghost CIPHER_LEN = { 58 };
+
+    const SET: u8 = 2;
+    const PUBLIC_LEN: usize = 33;
+    const SECRET_LEN: usize = 95;
+    const CIPHER_LEN: usize = 58;
+
+    type Pair = TestedPair<37, 127, 7>;
+
+    ghost made = { made drill37 };
+
+    ghost is_secret = { is_secret drill37 };
+
+    ghost public_in = { public_in drill37 };
+
+    ghost is_public = { is_public drill37 };
+
+    ghost encapsulated = { encapsulated drill37 };
+
+    ghost decapsulated = { decapsulated drill37 };
+
+    ghost secret_key = { secret_of };
+
+    fn make<V: Words>(alloc: Global, words: &mut V) -> Result<TestedPair<37, 127, 7>, KemRefusal> {
+        making::make::<37, 127, 7, V>(alloc, words)
+    }
+
+    fn pair_from_secret(
+        alloc: Global,
+        secret: &[u8],
+    ) -> Result<Option<TestedPair<37, 127, 7>>, AllocError> {
+        reading::from_secret::<37, 127, 7>(alloc, secret)
+    }
+
+    fn secret(pair: &TestedPair<37, 127, 7>, into: &mut [u8]) {
+        into.copy_from_slice(pair.secret.as_slice());
+    }
+
+    fn public(pair: &TestedPair<37, 127, 7>, into: &mut [u8]) {
+        reading::copy_public::<37, 127, 7>(pair, into)
+    }
+
+    fn public_ok(public: &[u8]) -> bool {
+        let mut h = blank::<37>();
+        read_public::<37, 127, 7>(public, &mut h).is_some()
+    }
+
+    fn encap<V: Words>(public: &[u8], words: &mut V, cipher: &mut [u8]) -> [u8; 32] {
+        encapsulation::encap::<37, 127, 7, V>(public, words, cipher)
+    }
+
+    fn decap(pair: &TestedPair<37, 127, 7>, cipher: &[u8]) -> Option<[u8; 32]> {
+        encapsulation::decap::<37, 127, 7>(pair, cipher)
+    }
+
+    ghost pairs_are_tested = { ? };
+
+    ghost made_is_tested = { ? };
+
+    ghost public_is_public = { ? };
+
+    ghost decapsulates = { ? };
+}
