@@ -51,6 +51,6 @@ pub record Invertible : Type 0 where
 unfoldable pub first_invertible : ℕ → ℕ → (Stream → List ℤ) → (List ℤ → Option (List ℤ)) → Stream → Option Invertible
 first_invertible p zero draw invert words = None
 first_invertible p (suc tries) draw invert words = elim (invert (draw words)) [
-    Some inverse ↦ Some (record { drawn = draw words; inverse = inverse; left = behind p words })
+  | Some inverse ↦ Some (record { drawn = draw words; inverse = inverse; left = behind p words })
   | None ↦ first_invertible p tries draw invert (behind p words)
-  ]
+]
