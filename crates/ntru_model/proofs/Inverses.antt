@@ -1,5 +1,5 @@
 -- The inverse modulo m that `inverse_mod` names.
-use Rattle.std.proofs.Common.{◌≡◌, ℕ, zero, suc, ◌+◌, ◌-◌, ◌*◌, ◌/◌, ◌%◌, ◌<◌, true, Option, Some, None, List, [], ◌∷◌, length, map, replicate, All, ℤ, pos, negsuc, ◌+ℤ◌, ◌-ℤ◌, refl, sym, ap, subst, ◌∙◌, arith}
+use Rattle.std.proofs.Common.{◌≡◌, ℕ, suc, ◌+◌, ◌-◌, ◌/◌, ◌%◌, ◌<◌, true, Option, Some, None, List, length, replicate, All, ℤ, pos, negsuc, ◌-ℤ◌, refl, subst, arith}
 use Rattle.std.specs.List.{range_with_len}
 use Rattle.std.specs.Ordering.{int_eq}
 use Rattle.std.specs.Bool.{Decides}
@@ -8,7 +8,7 @@ use Rattle.std.proofs.lemmas.Int.{ints}
 use Rattle.std.proofs.lemmas.Bool.Decides.{Decides-int_eq}
 use Rattle.std.proofs.lemmas.Slice.Eq.{slice_eq-Decides}
 use Rattle.std.proofs.lemmas.List.Elements.{All-cons, All-replicate, All-weaker}
-use Rattle.ring_poly.specs.Ring.{product, IsCentred, IsCongruent, AreCongruent}
+use Rattle.ring_poly.specs.Ring.{product, IsCentred, AreCongruent}
 use Rattle.ring_solve.specs.Fields.{one}
 use Rattle.ring_solve.specs.Solutions.{Solves, coefficients_of}
 use Rattle.ring_solve.specs.declared.answer.Solved.{Solved}
@@ -16,7 +16,7 @@ use Rattle.ring_solve.specs.declared.answer.Solved.TheVariants.{Inverse, Kernel}
 use Rattle.ring_laws.specs.Laws.{HasInverse}
 use Rattle.ring_laws.proofs.Polynomials.{AreCongruent-back, centred_nonzero}
 use Rattle.ring_laws.proofs.Inverses.{inverses_equal, kernel_excludes}
-use Rattle.ntru_model.specs.Residues.{centred, product_mod, centred_numbers, inverse_mod}
+use Rattle.ntru_model.specs.Residues.{product_mod, centred_numbers, inverse_mod}
 use Rattle.ntru_model.specs.Search.{lists_of}
 use Rattle.ntru_model.proofs.Search.{Occurs, occurs_map, from_map, occurs_below, from_below, listed, from_listed, found, not_found, from_found}
 use Rattle.ntru_model.proofs.Residues.{product_mod_is, product_mod_congruent}
@@ -40,7 +40,7 @@ from_centred m c odd h =
     let e = p.2 in
     (omega (arith, ints), omega (arith, ints))
 
-one_centred : (p m : ℕ) → m % 2 ≡ 1 → 1 < m → All (IsCentred (pos m)) (one p)
+pub one_centred : (p m : ℕ) → m % 2 ≡ 1 → 1 < m → All (IsCentred (pos m)) (one p)
 one_centred p m odd some =
     All-cons (IsCentred (pos m)) (pos 1) (replicate (p - 1) (pos 0)) (omega (arith, ints), omega (arith, ints))
     (All-replicate (IsCentred (pos m)) (p - 1) (pos 0) (omega (arith, ints), omega (arith, ints)))

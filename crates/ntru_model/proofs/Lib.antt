@@ -5,3 +5,11 @@ pub mod Sorting
 pub mod Injective
 pub mod Inverses
 pub mod Readers
+pub mod Options
+pub mod Small
+pub mod Drawn
+pub mod Sets
+pub mod Bytes
+pub mod Tested
+pub mod DrawnPairs
+pub mod Undone

@@ -1,16 +1,16 @@
 -- Centred residues, products modulo m, and rounding.
-use Rattle.std.proofs.Common.{◌≡◌, ℕ, zero, suc, ◌+◌, ◌-◌, ◌*◌, ◌/◌, ◌%◌, ◌<◌, List, length, map, All, ℤ, pos, negsuc, ◌+ℤ◌, ◌-ℤ◌, ◌*ℤ◌, neg_ℤ, refl, sym, ap, subst, ◌∙◌, arith}
+use Rattle.std.proofs.Common.{◌≡◌, ℕ, suc, ◌+◌, ◌-◌, ◌*◌, ◌/◌, ◌%◌, ◌<◌, List, length, map, All, ℤ, pos, negsuc, ◌+ℤ◌, ◌-ℤ◌, neg_ℤ, refl, sym, subst, ◌∙◌, arith}
 use Rattle.std.specs.Int.{int_rem_euclid}
 use Rattle.std.proofs.lemmas.Int.{ints}
 use Rattle.std.proofs.lemmas.List.{ext_get_or, length-map, get_or-map}
 use Rattle.std.proofs.lemmas.List.Elements.{All-get_or, All-from_get_or}
 use Rattle.std.proofs.Math.IntN.{*ℤ_comm, pos-*ℤ-pos}
-use Rattle.ring_poly.specs.Ring.{coefficient, product, IsCentred, IsCongruent, AreCongruent, IsWithin, IsRounded, AreRounded}
-use Rattle.ring_poly.proofs.Congruences.{IsCongruent-same, IsCongruent-back, IsCongruent-then, neg-mul}
+use Rattle.ring_poly.specs.Ring.{coefficient, product, IsCentred, IsCongruent, AreCongruent, IsRounded, AreRounded}
+use Rattle.ring_poly.proofs.Congruences.{IsCongruent-back, IsCongruent-then, neg-mul}
 use Rattle.ring_poly.proofs.Centred.{rounded_without}
 use Rattle.ring_poly.proofs.WindowSums.{length-product}
 use Rattle.ring_solve.proofs.Residues.{rest_congruent}
-use Rattle.ring_laws.proofs.Polynomials.{centred_equal, AreCongruent-back}
+use Rattle.ring_laws.proofs.Polynomials.{centred_equal}
 use Rattle.ntru_model.specs.Residues.{centred, product_mod, nearest_triple}
 
 -- the rest of a division, from 0 to m - 1

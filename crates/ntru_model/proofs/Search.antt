@@ -91,7 +91,7 @@ pub not_found : {X : Type 0} (t : X → Bool) (xs : List X) → ((x : X) → Occ
 not_found t [] fails = refl
 not_found t (x ∷ xs) fails = none_step t x (find t xs) (t x) refl (fails x (inl refl)) (not_found t xs (λ y o. fails y (inr o)))
 
-some_same : {X : Type 0} (x y : X) → Some x ≡ Some y → x ≡ y
+pub some_same : {X : Type 0} (x y : X) → Some x ≡ Some y → x ≡ y
 some_same x y e = cc
 
 from_step : {X : Type 0} (t : X → Bool) (x b : X) (r : Option X) (v : Bool) → t x ≡ v → cond v (Some x) r ≡ Some b → ((x ≡ b) × (t b ≡ true)) ⊎ (r ≡ Some b)

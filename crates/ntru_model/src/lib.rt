@@ -1,14 +1,18 @@
 //! The key encapsulation by its definitions, and its laws: each is the contract of a function.
 #![tactic(auto)]
 
-ghost use Rattle.std.specs.Prelude.{◌≡◌, ℕ, ◌%◌, ◌<◌, length, All, List, Some, None, ℤ, pos};
+ghost use Rattle.std.specs.Prelude.{◌≡◌, ◌⊎◌, ℕ, ◌%◌, ◌<◌, length, All, List, Some, None, ℤ, pos};
 ghost use Rattle.ring_poly.specs.Ring.{AreCongruent, IsCentred, product};
 ghost use Rattle.ring_solve.specs.Fields.{one};
 ghost use Rattle.ring_laws.specs.Laws.{HasInverse};
 ghost use Rattle.ntru_codec.specs.Mixed.{mixed_encoding};
 ghost use Rattle.ntru_codec.specs.Small.{IsSmall, small_encoding};
+ghost use Rattle.ntru_model.specs.Parameters.{Parameters, sntrup761, drill37, public_len, secret_len, cipher_len};
 ghost use Rattle.ntru_model.specs.Residues.{inverse_mod};
-ghost use Rattle.ntru_model.specs.Encodings.{mixed_read, small_read};
+ghost use Rattle.ntru_model.specs.Draws.{Stream};
+ghost use Rattle.ntru_model.specs.Encodings.{mixed_read, small_read, public_read, public_encoding};
+ghost use Rattle.ntru_model.specs.Pairs.{KeyPair, pair_drawn, public_key, secret_key, secret_read};
+ghost use Rattle.ntru_model.specs.Encapsulation.{Encapsulated, decapsulated, decapsulated_by, encapsulated};
 
 /// What `inverse_mod` gives: the centred polynomial whose product with a is 1, and nothing where a has no inverse.
 pub fn inverts()
@@ -20,4 +24,40 @@ pub fn inverts()
 pub fn reads_encodings()
     ensures mixed { (n m : ℕ) (rs : List ℕ) → m < 65536 → length rs ≡ n → All (λ r. r < m) rs → mixed_read n m (mixed_encoding m rs) ≡ Some rs }
     ensures small { (n : ℕ) (a : List ℤ) → n % 4 ≡ 1 → length a ≡ n → All IsSmall a → small_read n (small_encoding a) ≡ Some a }
+{}
+
+/// The polynomial of a public key: that of its pair where the pair is tested, and its own bytes encode it.
+pub fn reads_public_keys()
+    ensures own { (s : Parameters) (secret : List ℕ) (pair : KeyPair) → (s ≡ sntrup761) ⊎ (s ≡ drill37) → secret_read s secret ≡ Some pair → public_read s (public_key s pair) ≡ Some pair.h }
+    ensures bytes { (s : Parameters) (public : List ℕ) (h : List ℤ) → public_read s public ≡ Some h → public_encoding s h ≡ public }
+{}
+
+/// What is drawn is a tested pair: its secret key reads as the pair.
+pub fn draws_tested_pairs()
+    ensures { (s : Parameters) (words : Stream) (pair : KeyPair) → (s ≡ sntrup761) ⊎ (s ≡ drill37) → pair_drawn s words ≡ Some pair → secret_read s (secret_key s pair) ≡ Some pair }
+{}
+
+/// A tested pair has one secret key, which is what it was read from.
+pub fn has_one_secret()
+    ensures { (s : Parameters) (secret : List ℕ) (pair : KeyPair) → (s ≡ sntrup761) ⊎ (s ≡ drill37) → secret_read s secret ≡ Some pair → secret_key s pair ≡ secret }
+{}
+
+/// Equal words draw equal pairs, and encapsulate the same.
+pub fn depends_on_words()
+    ensures pairs { (s : Parameters) (u v : Stream) → ((n : ℕ) → u n ≡ v n) → pair_drawn s u ≡ pair_drawn s v }
+    ensures keys { (s : Parameters) (public : List ℕ) (u v : Stream) → ((n : ℕ) → u n ≡ v n) → encapsulated s public u ≡ encapsulated s public v }
+{}
+
+/// Decapsulation by a tested pair gives the key that was encapsulated to its public key.
+pub fn decapsulates()
+    ensures { (s : Parameters) (secret : List ℕ) (pair : KeyPair) (words : Stream) (e : Encapsulated) → (s ≡ sntrup761) ⊎ (s ≡ drill37) → secret_read s secret ≡ Some pair → encapsulated s (public_key s pair) words ≡ Some e → decapsulated_by s secret e.cipher ≡ Some e.key }
+{}
+
+/// How many bytes each thing has.
+pub fn has_lengths()
+    ensures secret { (s : Parameters) (secret : List ℕ) (pair : KeyPair) → (s ≡ sntrup761) ⊎ (s ≡ drill37) → secret_read s secret ≡ Some pair → length secret ≡ secret_len s }
+    ensures public { (s : Parameters) (secret : List ℕ) (pair : KeyPair) → (s ≡ sntrup761) ⊎ (s ≡ drill37) → secret_read s secret ≡ Some pair → length (public_key s pair) ≡ public_len s }
+    ensures cipher { (s : Parameters) (public : List ℕ) (words : Stream) (e : Encapsulated) → encapsulated s public words ≡ Some e → length e.cipher ≡ cipher_len s }
+    ensures key { (s : Parameters) (public : List ℕ) (words : Stream) (e : Encapsulated) → encapsulated s public words ≡ Some e → length e.key ≡ 32 }
+    ensures answer { (s : Parameters) (pair : KeyPair) (cipher key : List ℕ) → decapsulated s pair cipher ≡ Some key → length key ≡ 32 }
 {}

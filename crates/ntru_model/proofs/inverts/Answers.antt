@@ -1,5 +1,8 @@
 use Rattle.ntru_model.proofs.Inverses.{inverse_found, inverse_absent}
 use Rattle.ntru_model.proofs.inverts.Goals as goal
 
-pub returns : goal.returns
-returns c = record { found = inverse_found; none = inverse_absent }
+pub returns-clause-found : goal.returns-clause-found
+returns-clause-found c = inverse_found
+
+pub returns-clause-none : goal.returns-clause-none
+returns-clause-none c = inverse_absent
