@@ -13,3 +13,4 @@ pub mod Bytes
 pub mod Tested
 pub mod DrawnPairs
 pub mod Undone
+pub mod Computed

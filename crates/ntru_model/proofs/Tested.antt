@@ -184,6 +184,36 @@ length-parts s pair set t =
 pub length-secret : (s : Parameters) (pair : KeyPair) → IsSet s → IsTested s pair → length pair.rho ≡ small_len s → length (secret_key s pair) ≡ secret_len s
 length-secret s pair set t len = length-parts s pair set t ∙ ap (λ n. small_len s + small_len s + public_len s + n + 32) len
 
+-- the parts of a secret key
+pub record HasParts (s : Parameters) (pair : KeyPair) (secret : List ℕ) : Type 0 where
+  pub f : take (small_len s) secret ≡ small_encoding pair.f
+  pub g_inverse : take (small_len s) (drop (small_len s) secret) ≡ small_encoding pair.g_inverse
+  pub h : take (public_len s) (drop (small_len s + small_len s) secret) ≡ public_key s pair
+  pub rho : take (small_len s) (drop (small_len s + small_len s + public_len s) secret) ≡ pair.rho
+  pub cache : drop (small_len s + small_len s + public_len s + small_len s) secret ≡ hash 4 (public_key s pair)
+
+pub secret_parts : (s : Parameters) (pair : KeyPair) → IsSet s → IsTested s pair → length pair.rho ≡ small_len s → HasParts s pair (secret_key s pair)
+unfolding secret_key
+secret_parts s pair set t len =
+    let a = length-small s pair.f set t.f_len in
+    let b = length-small s pair.g_inverse set t.inverse_len in
+    let c = length-public s pair.h t.h_len in
+    let parts = five_parts (small_encoding pair.f) (small_encoding pair.g_inverse) (public_key s pair) pair.rho (hash 4 (public_key s pair)) (small_len s) (public_len s) a b c len in
+    let front : length (small_encoding pair.f ++ small_encoding pair.g_inverse ++ public_key s pair ++ pair.rho) ≡ small_len s + small_len s + public_len s + small_len s =
+    omega (
+      arith,
+      length-append (small_encoding pair.f ++ small_encoding pair.g_inverse ++ public_key s pair) pair.rho,
+      length-append (small_encoding pair.f ++ small_encoding pair.g_inverse) (public_key s pair),
+      length-append (small_encoding pair.f) (small_encoding pair.g_inverse),
+    ) in
+    record {
+      f = parts.0;
+      g_inverse = parts.1;
+      h = parts.2;
+      rho = parts.3;
+      cache = drop_at (small_encoding pair.f ++ small_encoding pair.g_inverse ++ public_key s pair ++ pair.rho) (hash 4 (public_key s pair)) (small_len s + small_len s + public_len s + small_len s) front;
+    }
+
 -- a pair that is read has a rho of its length
 rest_length : (front n w h : ℕ) → w ≡ min n (front + w + h - front) → 0 < h → w ≡ n
 rest_length front n w h e some = omega arith
@@ -204,3 +234,8 @@ rho_from_read s secret pair set e =
     ap length fields.rho_is ∙ length-take (small_len s) (drop (small_len s + small_len s + public_len s) secret)
     ∙ ap (min (small_len s)) (length-drop (small_len s + small_len s + public_len s) secret ∙ ap (λ n. n - (small_len s + small_len s + public_len s)) size) in
     rest_length (small_len s + small_len s + public_len s) (small_len s) (length pair.rho) 32 taken (omega arith)
+
+pub parts_from_read : (s : Parameters) (secret : List ℕ) (pair : KeyPair) → IsSet s → secret_read s secret ≡ Some pair → HasParts s pair secret
+parts_from_read s secret pair set e =
+    let t = tested_from_read s secret pair set e in
+    subst (HasParts s pair) t.1 (secret_parts s pair set t.0 (rho_from_read s secret pair set e))

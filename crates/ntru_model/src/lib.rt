@@ -1,17 +1,17 @@
 //! The key encapsulation by its definitions, and its laws: each is the contract of a function.
 #![tactic(auto)]
 
-ghost use Rattle.std.specs.Prelude.{◌≡◌, ◌⊎◌, ℕ, ◌%◌, ◌<◌, length, All, List, Some, None, ℤ, pos};
+ghost use Rattle.std.specs.Prelude.{◌≡◌, ◌⊎◌, ℕ, ◌+◌, ◌%◌, ◌<◌, length, take, drop, All, List, [], ◌∷◌, Some, None, ℤ, pos, negsuc};
 ghost use Rattle.ring_poly.specs.Ring.{AreCongruent, IsCentred, product};
 ghost use Rattle.ring_solve.specs.Fields.{one};
 ghost use Rattle.ring_laws.specs.Laws.{HasInverse};
 ghost use Rattle.ntru_codec.specs.Mixed.{mixed_encoding};
 ghost use Rattle.ntru_codec.specs.Small.{IsSmall, small_encoding};
-ghost use Rattle.ntru_model.specs.Parameters.{Parameters, sntrup761, drill37, public_len, secret_len, cipher_len};
+ghost use Rattle.ntru_model.specs.Parameters.{Parameters, sntrup761, drill37, small_len, public_len, core_len, secret_len, cipher_len};
 ghost use Rattle.ntru_model.specs.Residues.{inverse_mod};
-ghost use Rattle.ntru_model.specs.Draws.{Stream};
+ghost use Rattle.ntru_model.specs.Draws.{Stream, marked, small_coefficient};
 ghost use Rattle.ntru_model.specs.Encodings.{mixed_read, small_read, public_read, public_encoding};
-ghost use Rattle.ntru_model.specs.Pairs.{KeyPair, pair_drawn, public_key, secret_key, secret_read};
+ghost use Rattle.ntru_model.specs.Pairs.{KeyPair, hash, pair_drawn, public_key, secret_key, secret_read};
 ghost use Rattle.ntru_model.specs.Encapsulation.{Encapsulated, decapsulated, decapsulated_by, encapsulated};
 
 /// What `inverse_mod` gives: the centred polynomial whose product with a is 1, and nothing where a has no inverse.
@@ -37,9 +37,13 @@ pub fn draws_tested_pairs()
     ensures { (s : Parameters) (words : Stream) (pair : KeyPair) → (s ≡ sntrup761) ⊎ (s ≡ drill37) → pair_drawn s words ≡ Some pair → secret_read s (secret_key s pair) ≡ Some pair }
 {}
 
-/// A tested pair has one secret key, which is what it was read from.
+/// A tested pair has one secret key, which is what it was read from; its public key, rho and the hash of the public key
+/// stand in it.
 pub fn has_one_secret()
-    ensures { (s : Parameters) (secret : List ℕ) (pair : KeyPair) → (s ≡ sntrup761) ⊎ (s ≡ drill37) → secret_read s secret ≡ Some pair → secret_key s pair ≡ secret }
+    ensures whole { (s : Parameters) (secret : List ℕ) (pair : KeyPair) → (s ≡ sntrup761) ⊎ (s ≡ drill37) → secret_read s secret ≡ Some pair → secret_key s pair ≡ secret }
+    ensures public { (s : Parameters) (secret : List ℕ) (pair : KeyPair) → (s ≡ sntrup761) ⊎ (s ≡ drill37) → secret_read s secret ≡ Some pair → take (public_len s) (drop (small_len s + small_len s) secret) ≡ public_key s pair }
+    ensures rho { (s : Parameters) (secret : List ℕ) (pair : KeyPair) → (s ≡ sntrup761) ⊎ (s ≡ drill37) → secret_read s secret ≡ Some pair → take (small_len s) (drop (small_len s + small_len s + public_len s) secret) ≡ pair.rho }
+    ensures cache { (s : Parameters) (secret : List ℕ) (pair : KeyPair) → (s ≡ sntrup761) ⊎ (s ≡ drill37) → secret_read s secret ≡ Some pair → drop (small_len s + small_len s + public_len s + small_len s) secret ≡ hash 4 (public_key s pair) }
 {}
 
 /// Equal words draw equal pairs, and encapsulate the same.
@@ -60,4 +64,22 @@ pub fn has_lengths()
     ensures cipher { (s : Parameters) (public : List ℕ) (words : Stream) (e : Encapsulated) → encapsulated s public words ≡ Some e → length e.cipher ≡ cipher_len s }
     ensures key { (s : Parameters) (public : List ℕ) (words : Stream) (e : Encapsulated) → encapsulated s public words ≡ Some e → length e.key ≡ 32 }
     ensures answer { (s : Parameters) (pair : KeyPair) (cipher key : List ℕ) → decapsulated s pair cipher ≡ Some key → length key ≡ 32 }
+{}
+
+/// The lengths in bytes of both sets.
+pub fn counts_bytes()
+    ensures small { (small_len sntrup761 ≡ 191) × (small_len drill37 ≡ 10) }
+    ensures public { (public_len sntrup761 ≡ 1158) × (public_len drill37 ≡ 33) }
+    ensures core { (core_len sntrup761 ≡ 1007) × (core_len drill37 ≡ 26) }
+    ensures secret { (secret_len sntrup761 ≡ 1763) × (secret_len drill37 ≡ 95) }
+    ensures cipher { (cipher_len sntrup761 ≡ 1039) × (cipher_len drill37 ≡ 58) }
+{}
+
+/// Words at the bounds of the coefficients, and marked words.
+pub fn draws_examples()
+    ensures least { small_coefficient 0 ≡ negsuc 0 }
+    ensures middle { small_coefficient 0x20000000 ≡ pos 0 }
+    ensures greatest { small_coefficient 0x3fffffff ≡ pos 1 }
+    ensures high_bits { small_coefficient 0xc0000000 ≡ negsuc 0 }
+    ensures marks { (marked 7 6 15 ≡ 14) × (marked 7 7 15 ≡ 13) }
 {}
