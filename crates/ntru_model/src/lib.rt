@@ -5,8 +5,8 @@ ghost use Rattle.std.specs.Prelude.{◌≡◌, ◌⊎◌, ℕ, ◌+◌, ◌%◌,
 ghost use Rattle.ring_poly.specs.Ring.{AreCongruent, IsCentred, product};
 ghost use Rattle.ring_solve.specs.Fields.{one};
 ghost use Rattle.ring_laws.specs.Laws.{HasInverse};
-ghost use Rattle.ntru_codec.specs.Mixed.{mixed_encoding};
-ghost use Rattle.ntru_codec.specs.Small.{IsSmall, small_encoding};
+ghost use Rattle.ntru_codec.specs.Mixed.{mixed_encoding, Spells};
+ghost use Rattle.ntru_codec.specs.Small.{IsSmall, small_encoding, SpellsSmall};
 ghost use Rattle.ntru_model.specs.Parameters.{Parameters, sntrup761, drill37, small_len, public_len, core_len, secret_len, cipher_len};
 ghost use Rattle.ntru_model.specs.Residues.{inverse_mod};
 ghost use Rattle.ntru_model.specs.Draws.{Stream, marked, small_coefficient};
@@ -18,17 +18,24 @@ ghost use Rattle.ntru_model.specs.Encapsulation.{Encapsulated, decapsulated, dec
 pub fn inverts()
     ensures found { (p m : ℕ) (a b : List ℤ) → 1 < p → m % 2 ≡ 1 → 1 < m → length a ≡ p → length b ≡ p → All (IsCentred (pos m)) b → AreCongruent (pos m) (product p a b) (one p) → inverse_mod p m a ≡ Some b }
     ensures none { (p m : ℕ) (a : List ℤ) → m % 2 ≡ 1 → 1 < m → (HasInverse p (pos m) a → ⊥) → inverse_mod p m a ≡ None }
+    ensures only { (p m : ℕ) (a b : List ℤ) → m % 2 ≡ 1 → 1 < m → inverse_mod p m a ≡ Some b → (length b ≡ p) × All (IsCentred (pos m)) b × AreCongruent (pos m) (product p a b) (one p) }
 {}
 
-/// Each list of digits below a modulus, and each list of 4 k + 1 small coefficients, is read from its encoding.
+/// Each list of digits below a modulus, and each list of 4 k + 1 small coefficients, is read from its encoding, and nothing
+/// else is read.
 pub fn reads_encodings()
     ensures mixed { (n m : ℕ) (rs : List ℕ) → m < 65536 → length rs ≡ n → All (λ r. r < m) rs → mixed_read n m (mixed_encoding m rs) ≡ Some rs }
     ensures small { (n : ℕ) (a : List ℤ) → n % 4 ≡ 1 → length a ≡ n → All IsSmall a → small_read n (small_encoding a) ≡ Some a }
+    ensures mixed_only { (n m : ℕ) (bytes rs : List ℕ) → mixed_read n m bytes ≡ Some rs → (length rs ≡ n) × Spells m bytes rs }
+    ensures small_only { (n : ℕ) (bytes : List ℕ) (a : List ℤ) → small_read n bytes ≡ Some a → (length a ≡ n) × SpellsSmall bytes a }
 {}
 
-/// The polynomial of a public key: that of its pair where the pair is tested, and its own bytes encode it.
+/// The polynomial of a public key: each polynomial of centred coefficients is read from its encoding, as that of a tested
+/// pair, and nothing else is read.
 pub fn reads_public_keys()
+    ensures every { (s : Parameters) (h : List ℤ) → (s ≡ sntrup761) ⊎ (s ≡ drill37) → length h ≡ s.p → All (IsCentred (pos s.q)) h → public_read s (public_encoding s h) ≡ Some h }
     ensures own { (s : Parameters) (secret : List ℕ) (pair : KeyPair) → (s ≡ sntrup761) ⊎ (s ≡ drill37) → secret_read s secret ≡ Some pair → public_read s (public_key s pair) ≡ Some pair.h }
+    ensures only { (s : Parameters) (public : List ℕ) (h : List ℤ) → (s ≡ sntrup761) ⊎ (s ≡ drill37) → public_read s public ≡ Some h → (length h ≡ s.p) × All (IsCentred (pos s.q)) h }
     ensures bytes { (s : Parameters) (public : List ℕ) (h : List ℤ) → public_read s public ≡ Some h → public_encoding s h ≡ public }
 {}
 
