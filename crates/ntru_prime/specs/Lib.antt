@@ -1,3 +1,4 @@
 pub mod Sets
 pub mod Keys
 pub mod PairKeys
+pub mod KeyLaws

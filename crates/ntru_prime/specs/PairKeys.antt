@@ -1,7 +1,7 @@
 -- What contracts see of a pair.
-use Rattle.std.specs.Prelude.{ℕ, List, ℤ}
+use Rattle.std.specs.Prelude.{ℕ, List}
 use Rattle.ntru_prime.specs.declared.pair.TestedPair.{TestedPair}
 
 -- its secret key
-abbrev pub secret_of : {P Q W : ℕ} → TestedPair P Q W → List ℕ
+abbrev pub secret_of : {P : ℕ} → TestedPair P → List ℕ
 secret_of pair = pair.secret.items

@@ -7,6 +7,9 @@ use std::alloc::{AllocError, Global};
 /// The words that the encodings of a set's polynomials need beside them.
 const SCRATCH: usize = 3044;
 
+/// The bytes of the words that rho takes.
+const RHO: usize = 192;
+
 /// The bytes of the longest ciphertext.
 const CIPHER: usize = 1039;
 
@@ -32,6 +35,12 @@ pub(crate) fn scratch() -> [u32; SCRATCH]
     ensures { length result ≡ 3044 }
 {
     [0; SCRATCH]
+}
+
+pub(crate) fn blank_bytes() -> [u8; RHO]
+    ensures { length result ≡ 192 }
+{
+    [0; RHO]
 }
 
 pub(crate) fn blank_cipher() -> [u8; CIPHER]

@@ -8,38 +8,70 @@ ghost use Rattle.ntru_model.specs.Encodings.{digit_of, public_encoding, public_r
 ghost use Rattle.ntru_prime.specs.Sets.{IsSet, set_of};
 
 use crate::blanks::{blank_digits, modulus, scratch};
-use ntru_codec::{decode_mixed, encode_mixed};
+use ntru_codec::{decode_mixed, encode_mixed, encoded_len};
 
-/// The digits of centred coefficients modulo q, each above half of q by its coefficient.
+/// The digit of a centred coefficient modulo q, which is above half of q by the coefficient.
+fn digit(q: u16, coefficient: i16) -> u16
+    requires small { q ≤ 4591 }
+    requires centred { IsCentred (pos q) coefficient }
+    ensures exact { result ≡ digit_of q coefficient }
+    ensures below { result < q }
+{
+    (coefficient + (q / 2) as i16) as u16
+}
+
+/// The coefficient of a digit.
+fn coefficient(q: u16, digit: u16) -> i16
+    requires small { q ≤ 4591 }
+    requires below { digit < q }
+    ensures { result ≡ pos digit -ℤ pos (q / 2) }
+{
+    digit as i16 - (q / 2) as i16
+}
+
 fn digits_of(q: u16, a: &[i16], into: &mut [u16])
     requires small { q ≤ 4591 }
     requires same { length a.now ≡ length into.old }
     requires centred { All (IsCentred (pos q)) a.now }
-    ensures { into.new ≡ map (digit_of q) a.now }
+    ensures digits { into.new ≡ map (digit_of q) a.now }
+    ensures below { All (λ r. r < q) into.new }
 {
     for i in 0..a.len() {
-        into[i] = (a[i] + (q / 2) as i16) as u16;
+        into[i] = digit(q, a[i]);
     }
 }
 
-/// A third of each digit.
-fn thirds(digits: &mut [u16])
-    ensures { digits.new ≡ map (λ d. d / 3) digits.old }
+fn thirds_of(q: u16, a: &[i16], into: &mut [u16])
+    requires small { q ≤ 4591 }
+    requires same { length a.now ≡ length into.old }
+    requires centred { All (IsCentred (pos q)) a.now }
+    ensures digits { into.new ≡ map (λ c. digit_of q c / 3) a.now }
+    ensures below { All (λ r. r < (q + 2) / 3) into.new }
 {
-    for i in 0..digits.len() {
-        digits[i] /= 3;
+    for i in 0..a.len() {
+        into[i] = digit(q, a[i]) / 3;
     }
 }
 
-/// The coefficients of digits times a step.
-fn coefficients_of(q: u16, step: u16, digits: &[u16], into: &mut [i16])
+fn coefficients_of(q: u16, digits: &[u16], into: &mut [i16])
     requires small { q ≤ 4591 }
     requires same { length digits.now ≡ length into.old }
-    requires below { All (λ r. step * r < q) digits.now }
-    ensures { into.new ≡ map (λ r. pos (step * r) -ℤ pos (q / 2)) digits.now }
+    requires below { All (λ r. r < q) digits.now }
+    ensures { into.new ≡ map (λ r. pos r -ℤ pos (q / 2)) digits.now }
 {
     for i in 0..digits.len() {
-        into[i] = (step * digits[i]) as i16 - (q / 2) as i16;
+        into[i] = coefficient(q, digits[i]);
+    }
+}
+
+fn tripled_of(q: u16, digits: &[u16], into: &mut [i16])
+    requires small { q ≤ 4591 }
+    requires same { length digits.now ≡ length into.old }
+    requires below { All (λ r. 3 * r < q) digits.now }
+    ensures { into.new ≡ map (λ r. pos (3 * r) -ℤ pos (q / 2)) digits.now }
+{
+    for i in 0..digits.len() {
+        into[i] = coefficient(q, 3 * digits[i]);
     }
 }
 
@@ -57,6 +89,15 @@ pub(crate) fn write_public<const P: usize, const Q: i32, const W: usize>(h: &[i1
     encode_mixed(&digits, q, &mut scratch(), into)
 }
 
+/// How many bytes a public key has.
+pub(crate) fn public_len<const P: usize, const Q: i32, const W: usize>() -> usize
+    requires { IsSet P Q W }
+    ensures exact { result ≡ public_len (set_of P Q W) }
+    ensures few { result ≤ 1158 }
+{
+    encoded_len(P, modulus::<Q>())
+}
+
 /// Reads one. None where the bytes are the encoding of none.
 pub(crate) fn read_public<const P: usize, const Q: i32, const W: usize>(bytes: &[u8], h: &mut [i16]) -> Option<()>
     requires set { IsSet P Q W }
@@ -65,8 +106,10 @@ pub(crate) fn read_public<const P: usize, const Q: i32, const W: usize>(bytes: &
 {
     let q = modulus::<Q>();
     let mut digits = blank_digits::<P>();
-    decode_mixed(bytes, q, &mut scratch(), &mut digits)?;
-    coefficients_of(q, 1, &digits, h);
+    if decode_mixed(bytes, q, &mut scratch(), &mut digits).is_none() {
+        return None;
+    }
+    coefficients_of(q, &digits, h);
     Some(())
 }
 
@@ -80,8 +123,7 @@ pub(crate) fn write_rounded<const P: usize, const Q: i32, const W: usize>(c: &[i
 {
     let q = modulus::<Q>();
     let mut digits = blank_digits::<P>();
-    digits_of(q, c, &mut digits);
-    thirds(&mut digits);
+    thirds_of(q, c, &mut digits);
     encode_mixed(&digits, (q + 2) / 3, &mut scratch(), into)
 }
 
@@ -93,7 +135,9 @@ pub(crate) fn read_rounded<const P: usize, const Q: i32, const W: usize>(bytes: 
 {
     let q = modulus::<Q>();
     let mut digits = blank_digits::<P>();
-    decode_mixed(bytes, (q + 2) / 3, &mut scratch(), &mut digits)?;
-    coefficients_of(q, 3, &digits, c);
+    if decode_mixed(bytes, (q + 2) / 3, &mut scratch(), &mut digits).is_none() {
+        return None;
+    }
+    tripled_of(q, &digits, c);
     Some(())
 }

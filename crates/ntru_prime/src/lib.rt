@@ -9,6 +9,7 @@ mod encodings;
 mod hashes;
 mod making;
 mod pair;
+mod parts;
 mod products;
 mod reading;
 mod sets;

@@ -12,14 +12,14 @@ ghost use Rattle.ntru_model.specs.Pairs.{pair_drawn, secret_key};
 ghost use Rattle.ntru_prime.specs.Sets.{IsSet, set_of};
 ghost use Rattle.ntru_prime.specs.Keys.{made};
 
-use crate::blanks::{blank, modulus, zero_bytes, zero_coefficients};
+use crate::blanks::{blank, zero_bytes, zero_coefficients};
 use crate::draws::{draw_bytes, draw_short, draw_small};
-use crate::encodings::write_public;
+use crate::encodings::{public_len, write_public};
 use crate::hashes::hash;
 use crate::pair::TestedPair;
 use crate::products::triple;
 use kem_trait::{KemRefusal, Words};
-use ntru_codec::{encode_small, encoded_len};
+use ntru_codec::encode_small;
 use ring_poly::mul_q;
 use ring_solve::{Poly, Solved, inverse};
 use std::alloc::{AllocError, Global};
@@ -36,10 +36,11 @@ fn usable_small<const P: usize, V: Words>(alloc: Global, words: &mut V, g: &mut 
     requires room { length g.old ≡ P }
     ensures { IfOk result (λ answer. first_invertible P 16 (small_draw P) (inverse_mod P 3) (V.upcoming words.old) ≡ option_map (λ b. record { drawn = g.new; inverse = b; left = V.upcoming words.new }) answer) }
 {
-    for _ in 0..TRIES {
+    for i in 0..TRIES {
         draw_small::<P, V>(words, g);
-        if let Solved::Inverse(found) = inverse::<P, 3>(alloc, g)? {
-            return Ok(Some(found));
+        match inverse::<P, 3>(alloc, g)? {
+            Solved::Inverse(found) => return Ok(Some(found)),
+            Solved::Kernel(_) => {}
         }
     }
     Ok(None)
@@ -66,10 +67,11 @@ fn usable_short<const P: usize, const Q: i32, const W: usize, V: Words>(alloc: G
     requires room { length f.old ≡ P }
     ensures { IfOk result (λ answer. first_invertible P 16 (short_draw P W) (λ a. inverse_mod P (unsigned_abs Q) (multiple_of (pos 3) a)) (V.upcoming words.old) ≡ option_map (λ b. record { drawn = f.new; inverse = b; left = V.upcoming words.new }) answer) }
 {
-    for _ in 0..TRIES {
+    for i in 0..TRIES {
         draw_short::<P, W, V>(words, f);
-        if let Some(found) = inverse_of_triple::<P, Q, W>(alloc, f)? {
-            return Ok(Some(found));
+        match inverse_of_triple::<P, Q, W>(alloc, f)? {
+            Some(found) => return Ok(Some(found)),
+            None => {}
         }
     }
     Ok(None)
@@ -97,7 +99,7 @@ pub(crate) fn write_secret<const P: usize, const Q: i32, const W: usize>(
     let small = P / 4 + 1;
     let (f_part, rest) = into.split_at_mut(small);
     let (g_part, rest) = rest.split_at_mut(small);
-    let (h_part, rest) = rest.split_at_mut(encoded_len(P, modulus::<Q>()));
+    let (h_part, rest) = rest.split_at_mut(public_len::<P, Q, W>());
     let (rho_part, cache) = rest.split_at_mut(small);
     encode_small(f, f_part);
     encode_small(g_inverse, g_part);
@@ -124,28 +126,30 @@ pub(crate) fn spelled<const P: usize, const Q: i32, const W: usize>(
     requires rho_len { length rho.now ≡ small_len (set_of P Q W) }
     ensures { IfOk result (λ secret. secret.items ≡ secret_key (set_of P Q W) (record { f = f.now; g_inverse = g_inverse.now; h = h.now; rho = rho.now })) }
 {
-    let len = 3 * (P / 4 + 1) + encoded_len(P, modulus::<Q>()) + 32;
+    let len = 3 * (P / 4 + 1) + public_len::<P, Q, W>() + 32;
     let mut secret = zero_bytes(alloc, len)?;
     write_secret::<P, Q, W>(f, g_inverse, h, rho, secret.as_mut_slice());
     Ok(secret)
 }
 
 /// Makes a pair: small g until it has an inverse modulo 3, short f until 3 f has one modulo Q, and rho.
-pub(crate) fn make<const P: usize, const Q: i32, const W: usize, V: Words>(alloc: Global, words: &mut V) -> Result<TestedPair<P, Q, W>, KemRefusal>
+pub(crate) fn make<const P: usize, const Q: i32, const W: usize, V: Words>(alloc: Global, words: &mut V) -> Result<TestedPair<P>, KemRefusal>
     requires set { IsSet P Q W }
     ensures pair { IfOk result (λ pair. made (set_of P Q W) (V.upcoming words.old) ≡ Some pair.secret.items) }
     ensures unusable { IsErrOf result KemRefusal.NoUsableKey → made (set_of P Q W) (V.upcoming words.old) ≡ None }
 {
     let mut g = blank::<P>();
-    let Some(g_inverse) = usable_small::<P, V>(alloc, words, &mut g)? else {
-        return Err(KemRefusal::NoUsableKey);
+    let g_inverse = match usable_small::<P, V>(alloc, words, &mut g)? {
+        Some(found) => found,
+        None => return Err(KemRefusal::NoUsableKey),
     };
     let mut f = zero_coefficients(alloc, P)?;
-    let Some(inverse) = usable_short::<P, Q, W, V>(alloc, words, f.as_mut_slice())? else {
-        return Err(KemRefusal::NoUsableKey);
+    let f_inverse = match usable_short::<P, Q, W, V>(alloc, words, f.as_mut_slice())? {
+        Some(found) => found,
+        None => return Err(KemRefusal::NoUsableKey),
     };
     let mut h = zero_coefficients(alloc, P)?;
-    mul_q::<P, Q>(&g, inverse.as_slice(), h.as_mut_slice());
+    mul_q::<P, Q>(&g, f_inverse.as_slice(), h.as_mut_slice());
     let mut rho = [0; SMALL];
     let rho = &mut rho[..P / 4 + 1];
     draw_bytes(words, rho);

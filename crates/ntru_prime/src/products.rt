@@ -1,6 +1,6 @@
 // Products in the ring, and tests of polynomials.
 
-ghost use Rattle.std.specs.Prelude.{◌≡◌, ◌≤◌, ◌<◌, ◌-◌, ◌++◌, ℕ, List, ℤ, length, map, replicate, All, pos, Bool, nat_eq, if◌then◌else◌, unsigned_abs, take, drop};
+ghost use Rattle.std.specs.Prelude.{◌≡◌, ◌≤◌, ◌<◌, ◌-◌, ◌++◌, ◌*ℤ◌, ℕ, List, ℤ, length, map, replicate, All, pos, Bool, nat_eq, if◌then◌else◌, unsigned_abs, take, drop};
 ghost use Rattle.std.specs.List.{count_by, list_all};
 ghost use Rattle.std.specs.Ordering.{int_eq};
 ghost use Rattle.std.specs.Cmp.Lexicographic.{pointwise};
@@ -15,6 +15,13 @@ ghost use Rattle.ntru_prime.specs.Sets.{IsSet};
 use crate::blanks::blank;
 use ring_poly::{center, mul_q};
 
+fn three_times(a: i16) -> i16
+    requires { IsSmall a }
+    ensures { result ≡ pos 3 *ℤ a }
+{
+    3 * a
+}
+
 /// Three times a small polynomial.
 pub(crate) fn triple(a: &[i16], into: &mut [i16])
     requires same { length a.now ≡ length into.old }
@@ -22,7 +29,7 @@ pub(crate) fn triple(a: &[i16], into: &mut [i16])
     ensures { into.new ≡ multiple_of (pos 3) a.now }
 {
     for i in 0..a.len() {
-        into[i] = 3 * a[i];
+        into[i] = three_times(a[i]);
     }
 }
 
@@ -41,12 +48,21 @@ pub(crate) fn triple_product<const P: usize, const Q: i32, const W: usize>(f: &[
     mul_q::<P, Q>(&tripled, a, into)
 }
 
+/// The centred number modulo 3.
+fn centre(a: i16) -> i16
+    ensures exact { result ≡ centred 3 a }
+    ensures centred { IsCentred (pos 3) result }
+{
+    center::<3>(i32::from(a))
+}
+
 /// Takes each number to the centred one modulo 3.
-pub(crate) fn modulo_three(a: &mut [i16])
-    ensures { a.new ≡ map (centred 3) a.old }
+pub(crate) fn modulo_three(a: &[i16], into: &mut [i16])
+    requires { length a.now ≡ length into.old }
+    ensures { into.new ≡ map (centred 3) a.now }
 {
     for i in 0..a.len() {
-        a[i] = center::<3>(i32::from(a[i]));
+        into[i] = centre(a[i]);
     }
 }
 
@@ -64,12 +80,22 @@ pub(crate) fn is_small(a: &[i16]) -> bool
     a.iter().all(|c| *c == 0 || *c == 1 || *c == -1)
 }
 
-/// Whether the polynomial is 1.
-pub(crate) fn is_one(a: &[i16]) -> bool
-    requires { 0 < length a.now }
-    ensures { result ≡ pointwise int_eq a.now (one (length a.now)) }
+/// The polynomial 1.
+fn one<const P: usize>() -> [i16; P]
+    requires { (1 < P) × (P ≤ 761) }
+    ensures { result ≡ one P }
 {
-    a[0] == 1 && a[1..].iter().all(|c| *c == 0)
+    let mut one = [0; P];
+    one[0] = 1;
+    one
+}
+
+/// Whether the polynomial is 1.
+pub(crate) fn is_one<const P: usize>(a: &[i16; P]) -> bool
+    requires { (1 < P) × (P ≤ 761) }
+    ensures { result ≡ pointwise int_eq a.now (one P) }
+{
+    *a == one::<P>()
 }
 
 /// Puts w ones and then zeros in the place of a polynomial.
@@ -77,9 +103,9 @@ fn put_ones(w: usize, into: &mut [i16])
     requires { w ≤ length into.old }
     ensures { into.new ≡ replicate w (pos 1) ++ replicate (length into.old - w) (pos 0) }
 {
-    for i in 0..into.len() {
-        into[i] = if i < w { 1 } else { 0 };
-    }
+    let (ones, zeros) = into.split_at_mut(w);
+    ones.fill(1);
+    zeros.fill(0);
 }
 
 /// Puts w ones and then zeros in the place of a polynomial that hasn't w coefficients other than 0.

@@ -9,12 +9,13 @@ ghost use Rattle.ntru_model.specs.Pairs.{fields_read, is_tested};
 ghost use Rattle.ntru_prime.specs.Sets.{IsSet, set_of, pair_with};
 ghost use Rattle.ntru_prime.specs.Keys.{is_secret, public_in};
 
-use crate::blanks::{blank, modulus, zero_coefficients};
-use crate::encodings::read_public;
+use crate::blanks::{blank, zero_coefficients};
+use crate::encodings::{public_len, read_public};
 use crate::making::spelled;
 use crate::pair::TestedPair;
+use crate::parts::part;
 use crate::products::{is_one, is_small, triple_product, weight};
-use ntru_codec::{decode_small, encoded_len};
+use ntru_codec::decode_small;
 use ring_poly::mul_3;
 use ring_solve::Poly;
 use std::alloc::{AllocError, Global};
@@ -34,10 +35,14 @@ fn read_fields<const P: usize, const Q: i32, const W: usize>(
     ensures { option_map (λ _. pair_with (set_of P Q W) f.new g_inverse.new h.new secret.now) result ≡ fields_read (set_of P Q W) secret.now }
 {
     let small = P / 4 + 1;
-    let public = encoded_len(P, modulus::<Q>());
-    decode_small(&secret[..small], f)?;
-    decode_small(&secret[small..2 * small], g_inverse)?;
-    read_public::<P, Q, W>(&secret[2 * small..2 * small + public], h)
+    let public = public_len::<P, Q, W>();
+    if decode_small(part(secret, 0, small), f).is_none() {
+        return None;
+    }
+    if decode_small(part(secret, small, small), g_inverse).is_none() {
+        return None;
+    }
+    read_public::<P, Q, W>(part(secret, 2 * small, public), h)
 }
 
 /// Whether f has weight W, 3 f h is small, and its product with g_inverse is 1 modulo 3.
@@ -61,11 +66,11 @@ fn is_tested<const P: usize, const Q: i32, const W: usize>(f: &[i16], g_inverse:
     }
     let mut product = blank::<P>();
     mul_3::<P>(&g, g_inverse, &mut product);
-    is_one(&product)
+    is_one::<P>(&product)
 }
 
 /// The pair with this secret key. None where the bytes are that of no tested pair.
-pub(crate) fn from_secret<const P: usize, const Q: i32, const W: usize>(alloc: Global, secret: &[u8]) -> Result<Option<TestedPair<P, Q, W>>, AllocError>
+pub(crate) fn from_secret<const P: usize, const Q: i32, const W: usize>(alloc: Global, secret: &[u8]) -> Result<Option<TestedPair<P>>, AllocError>
     requires set { IsSet P Q W }
     requires len { length secret.now ≡ secret_len (set_of P Q W) }
     ensures tested { IfOk result (λ answer. IsSome answer ↔ (is_secret (set_of P Q W) secret.now ≡ true)) }
@@ -84,8 +89,8 @@ pub(crate) fn from_secret<const P: usize, const Q: i32, const W: usize>(alloc: G
         return Ok(None);
     }
     let small = P / 4 + 1;
-    let at = 2 * small + encoded_len(P, modulus::<Q>());
-    let again = spelled::<P, Q, W>(alloc, f.as_slice(), g_inverse.as_slice(), h.as_slice(), &secret[at..at + small])?;
+    let at = 2 * small + public_len::<P, Q, W>();
+    let again = spelled::<P, Q, W>(alloc, f.as_slice(), g_inverse.as_slice(), h.as_slice(), part(secret, at, small))?;
     if !is_tested::<P, Q, W>(f.as_slice(), g_inverse.as_slice(), h.as_slice()) || again.as_slice() != secret {
         return Ok(None);
     }
@@ -98,12 +103,11 @@ pub(crate) fn from_secret<const P: usize, const Q: i32, const W: usize>(alloc: G
 }
 
 /// Copies the public key out of a pair.
-pub(crate) fn copy_public<const P: usize, const Q: i32, const W: usize>(pair: &TestedPair<P, Q, W>, into: &mut [u8])
+pub(crate) fn copy_public<const P: usize, const Q: i32, const W: usize>(pair: &TestedPair<P>, into: &mut [u8])
     requires set { IsSet P Q W }
     requires room { length into.old ≡ public_len (set_of P Q W) }
     ensures { into.new ≡ public_in (set_of P Q W) pair.now.secret.items }
 {
     let at = 2 * (P / 4 + 1);
-    let public = &pair.secret.as_slice()[at..at + into.len()];
-    into.copy_from_slice(public);
+    into.copy_from_slice(part(pair.secret.as_slice(), at, into.len()));
 }

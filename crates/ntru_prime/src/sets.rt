@@ -1,6 +1,7 @@
 //! The two sets.
 
-ghost use Rattle.std.specs.Prelude.{◌≡◌, ℕ};
+ghost use Rattle.std.specs.Prelude.{◌≡◌, ℕ, refl};
+ghost use Rattle.std.proofs.Common.{inl, inr};
 ghost use Rattle.ntru_model.specs.Parameters.{drill37, sntrup761};
 
 use crate::blanks::blank;
@@ -19,6 +20,7 @@ pub struct Drill37;
 impl Kem for Sntrup761 {
     ghost use Rattle.ntru_prime.specs.Keys.{decapsulated, encapsulated, is_public, is_secret, made, public_in};
     ghost use Rattle.ntru_prime.specs.PairKeys.{secret_of};
+    ghost use Rattle.ntru_prime.specs.KeyLaws.{is_secret_from, made_is_tested, public_is_public, decapsulates};
 
     ghost SET = { 1 };
 
@@ -33,7 +35,7 @@ impl Kem for Sntrup761 {
     const SECRET_LEN: usize = 1763;
     const CIPHER_LEN: usize = 1039;
 
-    type Pair = TestedPair<761, 4591, 286>;
+    type Pair = TestedPair<761>;
 
     ghost made = { made sntrup761 };
 
@@ -49,22 +51,22 @@ impl Kem for Sntrup761 {
 
     ghost secret_key = { secret_of };
 
-    fn make<V: Words>(alloc: Global, words: &mut V) -> Result<TestedPair<761, 4591, 286>, KemRefusal> {
+    fn make<V: Words>(alloc: Global, words: &mut V) -> Result<TestedPair<761>, KemRefusal> {
         making::make::<761, 4591, 286, V>(alloc, words)
     }
 
     fn pair_from_secret(
         alloc: Global,
         secret: &[u8],
-    ) -> Result<Option<TestedPair<761, 4591, 286>>, AllocError> {
+    ) -> Result<Option<TestedPair<761>>, AllocError> {
         reading::from_secret::<761, 4591, 286>(alloc, secret)
     }
 
-    fn secret(pair: &TestedPair<761, 4591, 286>, into: &mut [u8]) {
+    fn secret(pair: &TestedPair<761>, into: &mut [u8]) {
         into.copy_from_slice(pair.secret.as_slice());
     }
 
-    fn public(pair: &TestedPair<761, 4591, 286>, into: &mut [u8]) {
+    fn public(pair: &TestedPair<761>, into: &mut [u8]) {
         reading::copy_public::<761, 4591, 286>(pair, into)
     }
 
@@ -77,22 +79,23 @@ impl Kem for Sntrup761 {
         encapsulation::encap::<761, 4591, 286, V>(public, words, cipher)
     }
 
-    fn decap(pair: &TestedPair<761, 4591, 286>, cipher: &[u8]) -> Option<[u8; 32]> {
+    fn decap(pair: &TestedPair<761>, cipher: &[u8]) -> Option<[u8; 32]> {
         encapsulation::decap::<761, 4591, 286>(pair, cipher)
     }
 
-    ghost pairs_are_tested = { ? };
+    ghost pairs_are_tested = { λ pair. is_secret_from sntrup761 _ _ pair.tested };
 
-    ghost made_is_tested = { ? };
+    ghost made_is_tested = { made_is_tested sntrup761 (inl refl) };
 
-    ghost public_is_public = { ? };
+    ghost public_is_public = { public_is_public sntrup761 (inl refl) };
 
-    ghost decapsulates = { ? };
+    ghost decapsulates = { decapsulates sntrup761 (inl refl) };
 }
 
 impl Kem for Drill37 {
     ghost use Rattle.ntru_prime.specs.Keys.{decapsulated, encapsulated, is_public, is_secret, made, public_in};
     ghost use Rattle.ntru_prime.specs.PairKeys.{secret_of};
+    ghost use Rattle.ntru_prime.specs.KeyLaws.{is_secret_from, made_is_tested, public_is_public, decapsulates};
 
     ghost SET = { 2 };
 
@@ -107,7 +110,7 @@ impl Kem for Drill37 {
     const SECRET_LEN: usize = 95;
     const CIPHER_LEN: usize = 58;
 
-    type Pair = TestedPair<37, 127, 7>;
+    type Pair = TestedPair<37>;
 
     ghost made = { made drill37 };
 
@@ -123,22 +126,22 @@ impl Kem for Drill37 {
 
     ghost secret_key = { secret_of };
 
-    fn make<V: Words>(alloc: Global, words: &mut V) -> Result<TestedPair<37, 127, 7>, KemRefusal> {
+    fn make<V: Words>(alloc: Global, words: &mut V) -> Result<TestedPair<37>, KemRefusal> {
         making::make::<37, 127, 7, V>(alloc, words)
     }
 
     fn pair_from_secret(
         alloc: Global,
         secret: &[u8],
-    ) -> Result<Option<TestedPair<37, 127, 7>>, AllocError> {
+    ) -> Result<Option<TestedPair<37>>, AllocError> {
         reading::from_secret::<37, 127, 7>(alloc, secret)
     }
 
-    fn secret(pair: &TestedPair<37, 127, 7>, into: &mut [u8]) {
+    fn secret(pair: &TestedPair<37>, into: &mut [u8]) {
         into.copy_from_slice(pair.secret.as_slice());
     }
 
-    fn public(pair: &TestedPair<37, 127, 7>, into: &mut [u8]) {
+    fn public(pair: &TestedPair<37>, into: &mut [u8]) {
         reading::copy_public::<37, 127, 7>(pair, into)
     }
 
@@ -151,15 +154,15 @@ impl Kem for Drill37 {
         encapsulation::encap::<37, 127, 7, V>(public, words, cipher)
     }
 
-    fn decap(pair: &TestedPair<37, 127, 7>, cipher: &[u8]) -> Option<[u8; 32]> {
+    fn decap(pair: &TestedPair<37>, cipher: &[u8]) -> Option<[u8; 32]> {
         encapsulation::decap::<37, 127, 7>(pair, cipher)
     }
 
-    ghost pairs_are_tested = { ? };
+    ghost pairs_are_tested = { λ pair. is_secret_from drill37 _ _ pair.tested };
 
-    ghost made_is_tested = { ? };
+    ghost made_is_tested = { made_is_tested drill37 (inr refl) };
 
-    ghost public_is_public = { ? };
+    ghost public_is_public = { public_is_public drill37 (inr refl) };
 
-    ghost decapsulates = { ? };
+    ghost decapsulates = { decapsulates drill37 (inr refl) };
 }

@@ -1,0 +1,10 @@
+use Rattle.std.proofs.Common.{◌≡◌, ◌-◌, pos, unsigned_abs, to_z, w32}
+use Rattle.ring_laws.specs.Laws.{multiple_of}
+use Rattle.ntru_model.specs.Draws.{first_invertible, small_draw}
+use Rattle.ntru_model.specs.Residues.{inverse_mod}
+use Rattle.ntru_prime.proofs.making.usable_small.Given as goal
+
+-- what the tries to come give
+abbrev pub invariant-loop-i : goal.invariant-loop-i
+invariant-loop-i g l =
+    first_invertible g.row.P 16 (small_draw g.row.P) (inverse_mod g.row.P 3) (g.V.Words.upcoming l.initial.words) ≡ first_invertible g.row.P (16 - l.i) (small_draw g.row.P) (inverse_mod g.row.P 3) (g.V.Words.upcoming l.words)
