@@ -6,3 +6,5 @@ pub mod Encapsulates
 pub mod PairFacts
 pub mod Solving
 pub mod Makes
+pub mod FieldReads
+pub mod Tests

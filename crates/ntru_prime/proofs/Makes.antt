@@ -84,3 +84,11 @@ module _ {p : ℕ} {q : ℤ} {w : ℕ} (set : IsSet p q w) (words : Stream) (g f
       let parts = subst (HasParts (set_of p q w) (record { f = f.drawn; g_inverse = g.inverse; h = h; rho = rho })) (sym e) (secret_parts (set_of p q w) (record { f = f.drawn; g_inverse = g.inverse; h = h; rho = rho }) one tested.0 tested.1) in
       subst (λ s. secret_read s secret ≡ Some (pair_with s f.drawn g.inverse h secret)) (sym set.named)
       (whole ∙ ap (λ r. Some (record { f = f.drawn; g_inverse = g.inverse; h = h; rho = r })) (sym parts.rho))
+
+-- secret keys of equal parts
+pub secret_same : (s : Parameters) (f f' g g' h h' : List ℤ) (rho : List ℕ) → f ≡ f' → g ≡ g' → h ≡ h'
+    → secret_key s (record { f = f; g_inverse = g; h = h; rho = rho }) ≡ secret_key s (record { f = f'; g_inverse = g'; h = h'; rho = rho })
+secret_same s f f' g g' h h' rho ef eg eh =
+    ap (λ x. secret_key s (record { f = x; g_inverse = g; h = h; rho = rho })) ef
+    ∙ ap (λ x. secret_key s (record { f = f'; g_inverse = x; h = h; rho = rho })) eg
+    ∙ ap (λ x. secret_key s (record { f = f'; g_inverse = g'; h = x; rho = rho })) eh

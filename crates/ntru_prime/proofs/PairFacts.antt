@@ -53,7 +53,7 @@ module _ {p : ℕ} {q : ℤ} {w : ℕ} (set : IsSet p q w) (f g h : List ℤ) (s
   unfolding cipher_of
   key_there r cipher digest confirm cache again key hs t eh ed ec ef ea et holds ek =
       let whole : again ≡ cipher_of (set_of p q w) h (public_key (set_of p q w) (pair_with (set_of p q w) f g h secret)) r =
-          ea ∙ ap₂ (λ a b. rounded_encoding (set_of p q w) (map nearest_triple (product_mod p (unsigned_abs q) a r)) ++ b) eh (ef ∙ ap₂ (λ a b. hash 2 (a ++ b)) ed ec) in
+      ea ∙ ap₂ (λ a b. rounded_encoding (set_of p q w) (map nearest_triple (product_mod p (unsigned_abs q) a r)) ++ b) eh (ef ∙ ap₂ (λ a b. hash 2 (a ++ b)) ed ec) in
       let test : pointwise nat_eq (cipher_of (set_of p q w) h (public_key (set_of p q w) (pair_with (set_of p q w) f g h secret)) r) cipher ≡ true = ap (λ a. pointwise nat_eq a cipher) (sym whole) ∙ sym et ∙ holds in
       ek ∙ ap (λ a. hash 1 (a ++ cipher)) ed
       ∙ sym (ap (λ b. cond b (hash 1 (hash 3 (small_encoding r) ++ cipher)) (hash 0 (hash 3 (take (small_len (set_of p q w)) (drop (small_len (set_of p q w) + small_len (set_of p q w) + public_len (set_of p q w)) secret)) ++ cipher))) test)
@@ -67,7 +67,7 @@ module _ {p : ℕ} {q : ℤ} {w : ℕ} (set : IsSet p q w) (f g h : List ℤ) (s
   unfolding cipher_of
   key_refused r cipher digest confirm cache again rho_hash rho key hs t eh ed ec ef ea et fails er eq ek =
       let whole : again ≡ cipher_of (set_of p q w) h (public_key (set_of p q w) (pair_with (set_of p q w) f g h secret)) r =
-          ea ∙ ap₂ (λ a b. rounded_encoding (set_of p q w) (map nearest_triple (product_mod p (unsigned_abs q) a r)) ++ b) eh (ef ∙ ap₂ (λ a b. hash 2 (a ++ b)) ed ec) in
+      ea ∙ ap₂ (λ a b. rounded_encoding (set_of p q w) (map nearest_triple (product_mod p (unsigned_abs q) a r)) ++ b) eh (ef ∙ ap₂ (λ a b. hash 2 (a ++ b)) ed ec) in
       let test : pointwise nat_eq (cipher_of (set_of p q w) h (public_key (set_of p q w) (pair_with (set_of p q w) f g h secret)) r) cipher ≡ false = ap (λ a. pointwise nat_eq a cipher) (sym whole) ∙ sym et ∙ fails in
       ek ∙ ap (λ a. hash 0 (a ++ cipher)) (eq ∙ ap (hash 3) er)
       ∙ sym (ap (λ b. cond b (hash 1 (hash 3 (small_encoding r) ++ cipher)) (hash 0 (hash 3 (take (small_len (set_of p q w)) (drop (small_len (set_of p q w) + small_len (set_of p q w) + public_len (set_of p q w)) secret)) ++ cipher))) test)

@@ -25,7 +25,7 @@ pub inverse_q : {p : ℕ} {q : ℤ} {w : ℕ} → IsSet p q w → (a t : List �
 inverse_q {p} {q} {w} set a t s e la solves ls centred =
     ap (inverse_mod p (unsigned_abs q)) (sym e)
     ∙ solved_inverse p (unsigned_abs q) t s (let z = set.size.0 in omega arith) (let z = set.sixths in omega arith) (let z = set.low in omega arith) la ls (to_natural set (coefficients_of s) centred)
-      (subst (λ z. Solves p z t s) set.positive solves)
+    (subst (λ z. Solves p z t s) set.positive solves)
 
 -- one more try
 pub try_later : (p i : ℕ) (draw : Stream → List ℤ) (invert : List ℤ → Option (List ℤ)) (words : Stream) (result : Option Invertible) (a : List ℤ) (after : Stream) → i < 16

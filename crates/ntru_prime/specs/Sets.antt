@@ -28,9 +28,9 @@ pub record IsSet (p : ℕ) (q : ℤ) (w : ℕ) : Type 0 where
 
 -- the pair of these polynomials, with rho from the bytes of a secret key
 abbrev pub pair_with : Parameters → (f g_inverse h : List ℤ) → (secret : List ℕ) → KeyPair
-pair_with s f g_inverse h secret = record
-  { f = f
-  ; g_inverse = g_inverse
-  ; h = h
-  ; rho = take (small_len s) (drop (small_len s + small_len s + public_len s) secret)
-  }
+pair_with s f g_inverse h secret = record {
+  f = f;
+  g_inverse = g_inverse;
+  h = h;
+  rho = take (small_len s) (drop (small_len s + small_len s + public_len s) secret);
+}

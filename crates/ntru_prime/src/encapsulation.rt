@@ -23,7 +23,12 @@ use kem_trait::Words;
 use ring_poly::{mul_3, mul_q, round_to_three};
 
 /// Writes the ciphertext of r: h r, rounded, and a hash.
-fn write_cipher<const P: usize, const Q: i32, const W: usize>(h: &[i16], r: &[i16], confirm: &[u8; 32], into: &mut [u8])
+fn write_cipher<const P: usize, const Q: i32, const W: usize>(
+    h: &[i16],
+    r: &[i16],
+    confirm: &[u8; 32],
+    into: &mut [u8],
+)
     requires set { IsSet P Q W }
     requires h_len { length h.now ≡ P }
     requires h_centred { All (IsCentred Q) h.now }
@@ -42,7 +47,11 @@ fn write_cipher<const P: usize, const Q: i32, const W: usize>(h: &[i16], r: &[i1
 }
 
 /// Writes a ciphertext to a public key, and answers the key in it.
-pub(crate) fn encap<const P: usize, const Q: i32, const W: usize, V: Words>(public: &[u8], words: &mut V, cipher: &mut [u8]) -> [u8; 32]
+pub(crate) fn encap<const P: usize, const Q: i32, const W: usize, V: Words>(
+    public: &[u8],
+    words: &mut V,
+    cipher: &mut [u8],
+) -> [u8; 32]
     requires set { IsSet P Q W }
     requires public_ok { is_public (set_of P Q W) public.now ≡ true }
     requires room { length cipher.old ≡ cipher_len (set_of P Q W) }
@@ -61,7 +70,11 @@ pub(crate) fn encap<const P: usize, const Q: i32, const W: usize, V: Words>(publ
 }
 
 /// Finds r from the polynomial of a ciphertext.
-fn find_r<const P: usize, const Q: i32, const W: usize>(pair: &TestedPair<P>, core: &[i16], r: &mut [i16])
+fn find_r<const P: usize, const Q: i32, const W: usize>(
+    pair: &TestedPair<P>,
+    core: &[i16],
+    r: &mut [i16],
+)
     requires set { IsSet P Q W }
     requires core_len { length core.now ≡ P }
     requires centred { All (IsCentred Q) core.now }
@@ -78,7 +91,10 @@ fn find_r<const P: usize, const Q: i32, const W: usize>(pair: &TestedPair<P>, co
 }
 
 /// The key in a ciphertext, or the refused key where it is that of no r. None where its polynomial is not spelled.
-pub(crate) fn decap<const P: usize, const Q: i32, const W: usize>(pair: &TestedPair<P>, cipher: &[u8]) -> Option<[u8; 32]>
+pub(crate) fn decap<const P: usize, const Q: i32, const W: usize>(
+    pair: &TestedPair<P>,
+    cipher: &[u8],
+) -> Option<[u8; 32]>
     requires set { IsSet P Q W }
     requires len { length cipher.now ≡ cipher_len (set_of P Q W) }
     ensures { result ≡ decapsulated_by (set_of P Q W) pair.now.secret.items cipher.now }
@@ -93,7 +109,11 @@ pub(crate) fn decap<const P: usize, const Q: i32, const W: usize>(pair: &TestedP
 }
 
 /// The key of r where the ciphertext is that of r, else the refused key.
-fn key_of<const P: usize, const Q: i32, const W: usize>(pair: &TestedPair<P>, r: &[i16], cipher: &[u8]) -> [u8; 32]
+fn key_of<const P: usize, const Q: i32, const W: usize>(
+    pair: &TestedPair<P>,
+    r: &[i16],
+    cipher: &[u8],
+) -> [u8; 32]
     requires set { IsSet P Q W }
     requires r_len { length r.now ≡ P }
     requires r_small { All IsSmall r.now }

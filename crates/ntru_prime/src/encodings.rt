@@ -99,7 +99,10 @@ pub(crate) fn public_len<const P: usize, const Q: i32, const W: usize>() -> usiz
 }
 
 /// Reads one. None where the bytes are the encoding of none.
-pub(crate) fn read_public<const P: usize, const Q: i32, const W: usize>(bytes: &[u8], h: &mut [i16]) -> Option<()>
+pub(crate) fn read_public<const P: usize, const Q: i32, const W: usize>(
+    bytes: &[u8],
+    h: &mut [i16],
+) -> Option<()>
     requires set { IsSet P Q W }
     requires len { length h.old ≡ P }
     ensures { option_map (λ _. h.new) result ≡ public_read (set_of P Q W) bytes.now }
@@ -114,7 +117,10 @@ pub(crate) fn read_public<const P: usize, const Q: i32, const W: usize>(bytes: &
 }
 
 /// Writes a polynomial of centred coefficients that are multiples of 3.
-pub(crate) fn write_rounded<const P: usize, const Q: i32, const W: usize>(c: &[i16], into: &mut [u8])
+pub(crate) fn write_rounded<const P: usize, const Q: i32, const W: usize>(
+    c: &[i16],
+    into: &mut [u8],
+)
     requires set { IsSet P Q W }
     requires len { length c.now ≡ P }
     requires centred { All (IsCentred Q) c.now }
@@ -128,7 +134,10 @@ pub(crate) fn write_rounded<const P: usize, const Q: i32, const W: usize>(c: &[i
 }
 
 /// Reads one. None where the bytes are the encoding of none.
-pub(crate) fn read_rounded<const P: usize, const Q: i32, const W: usize>(bytes: &[u8], c: &mut [i16]) -> Option<()>
+pub(crate) fn read_rounded<const P: usize, const Q: i32, const W: usize>(
+    bytes: &[u8],
+    c: &mut [i16],
+) -> Option<()>
     requires set { IsSet P Q W }
     requires len { length c.old ≡ P }
     ensures { option_map (λ _. c.new) result ≡ rounded_read (set_of P Q W) bytes.now }

@@ -12,7 +12,7 @@ ghost use Rattle.ntru_model.specs.Pairs.{pair_drawn, secret_key};
 ghost use Rattle.ntru_prime.specs.Sets.{IsSet, set_of};
 ghost use Rattle.ntru_prime.specs.Keys.{made};
 
-use crate::blanks::{blank, zero_bytes, zero_coefficients};
+use crate::blanks::{blank, blank_bytes, zero_bytes, zero_coefficients};
 use crate::draws::{draw_bytes, draw_short, draw_small};
 use crate::encodings::{public_len, write_public};
 use crate::hashes::hash;
@@ -27,11 +27,12 @@ use std::alloc::{AllocError, Global};
 /// How often a polynomial is drawn at most.
 const TRIES: usize = 16;
 
-/// The bytes of a small polynomial, and of rho, of the larger set.
-const SMALL: usize = 191;
-
 /// Draws small polynomials until one has an inverse modulo 3, and answers the inverse.
-fn usable_small<const P: usize, V: Words>(alloc: Global, words: &mut V, g: &mut [i16]) -> Result<Option<Poly>, AllocError>
+fn usable_small<const P: usize, V: Words>(
+    alloc: Global,
+    words: &mut V,
+    g: &mut [i16],
+) -> Result<Option<Poly>, AllocError>
     requires size { (1 < P) × (P ≤ 761) }
     requires room { length g.old ≡ P }
     ensures { IfOk result (λ answer. first_invertible P 16 (small_draw P) (inverse_mod P 3) (V.upcoming words.old) ≡ option_map (λ b. record { drawn = g.new; inverse = b; left = V.upcoming words.new }) answer) }
@@ -47,7 +48,10 @@ fn usable_small<const P: usize, V: Words>(alloc: Global, words: &mut V, g: &mut 
 }
 
 /// The inverse modulo Q of three times a small polynomial, where there is one.
-fn inverse_of_triple<const P: usize, const Q: i32, const W: usize>(alloc: Global, f: &[i16]) -> Result<Option<Poly>, AllocError>
+fn inverse_of_triple<const P: usize, const Q: i32, const W: usize>(
+    alloc: Global,
+    f: &[i16],
+) -> Result<Option<Poly>, AllocError>
     requires set { IsSet P Q W }
     requires len { length f.now ≡ P }
     requires small { All IsSmall f.now }
@@ -62,7 +66,11 @@ fn inverse_of_triple<const P: usize, const Q: i32, const W: usize>(alloc: Global
 }
 
 /// Draws short polynomials until three times one has an inverse modulo Q, and answers the inverse.
-fn usable_short<const P: usize, const Q: i32, const W: usize, V: Words>(alloc: Global, words: &mut V, f: &mut [i16]) -> Result<Option<Poly>, AllocError>
+fn usable_short<const P: usize, const Q: i32, const W: usize, V: Words>(
+    alloc: Global,
+    words: &mut V,
+    f: &mut [i16],
+) -> Result<Option<Poly>, AllocError>
     requires set { IsSet P Q W }
     requires room { length f.old ≡ P }
     ensures { IfOk result (λ answer. first_invertible P 16 (short_draw P W) (λ a. inverse_mod P (unsigned_abs Q) (multiple_of (pos 3) a)) (V.upcoming words.old) ≡ option_map (λ b. record { drawn = f.new; inverse = b; left = V.upcoming words.new }) answer) }
@@ -133,7 +141,10 @@ pub(crate) fn spelled<const P: usize, const Q: i32, const W: usize>(
 }
 
 /// Makes a pair: small g until it has an inverse modulo 3, short f until 3 f has one modulo Q, and rho.
-pub(crate) fn make<const P: usize, const Q: i32, const W: usize, V: Words>(alloc: Global, words: &mut V) -> Result<TestedPair<P>, KemRefusal>
+pub(crate) fn make<const P: usize, const Q: i32, const W: usize, V: Words>(
+    alloc: Global,
+    words: &mut V,
+) -> Result<TestedPair<P>, KemRefusal>
     requires set { IsSet P Q W }
     ensures pair { IfOk result (λ pair. made (set_of P Q W) (V.upcoming words.old) ≡ Some pair.secret.items) }
     ensures unusable { IsErrOf result KemRefusal.NoUsableKey → made (set_of P Q W) (V.upcoming words.old) ≡ None }
@@ -150,7 +161,7 @@ pub(crate) fn make<const P: usize, const Q: i32, const W: usize, V: Words>(alloc
     };
     let mut h = zero_coefficients(alloc, P)?;
     mul_q::<P, Q>(&g, f_inverse.as_slice(), h.as_mut_slice());
-    let mut rho = [0; SMALL];
+    let mut rho = blank_bytes();
     let rho = &mut rho[..P / 4 + 1];
     draw_bytes(words, rho);
     let secret = spelled::<P, Q, W>(alloc, f.as_slice(), g_inverse.as_slice(), h.as_slice(), rho)?;

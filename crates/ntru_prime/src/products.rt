@@ -34,7 +34,11 @@ pub(crate) fn triple(a: &[i16], into: &mut [i16])
 }
 
 /// Three times a small polynomial, times another, modulo Q.
-pub(crate) fn triple_product<const P: usize, const Q: i32, const W: usize>(f: &[i16], a: &[i16], into: &mut [i16])
+pub(crate) fn triple_product<const P: usize, const Q: i32, const W: usize>(
+    f: &[i16],
+    a: &[i16],
+    into: &mut [i16],
+)
     requires set { IsSet P Q W }
     requires f_len { length f.now ≡ P }
     requires small { All IsSmall f.now }

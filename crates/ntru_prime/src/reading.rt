@@ -42,11 +42,18 @@ fn read_fields<const P: usize, const Q: i32, const W: usize>(
     if decode_small(part(secret, small, small), g_inverse).is_none() {
         return None;
     }
-    read_public::<P, Q, W>(part(secret, 2 * small, public), h)
+    if read_public::<P, Q, W>(part(secret, 2 * small, public), h).is_none() {
+        return None;
+    }
+    Some(())
 }
 
 /// Whether f has weight W, 3 f h is small, and its product with g_inverse is 1 modulo 3.
-fn is_tested<const P: usize, const Q: i32, const W: usize>(f: &[i16], g_inverse: &[i16], h: &[i16]) -> bool
+fn is_tested<const P: usize, const Q: i32, const W: usize>(
+    f: &[i16],
+    g_inverse: &[i16],
+    h: &[i16],
+) -> bool
     requires set { IsSet P Q W }
     requires f_len { length f.now ≡ P }
     requires f_small { All IsSmall f.now }
@@ -70,7 +77,10 @@ fn is_tested<const P: usize, const Q: i32, const W: usize>(f: &[i16], g_inverse:
 }
 
 /// The pair with this secret key. None where the bytes are that of no tested pair.
-pub(crate) fn from_secret<const P: usize, const Q: i32, const W: usize>(alloc: Global, secret: &[u8]) -> Result<Option<TestedPair<P>>, AllocError>
+pub(crate) fn from_secret<const P: usize, const Q: i32, const W: usize>(
+    alloc: Global,
+    secret: &[u8],
+) -> Result<Option<TestedPair<P>>, AllocError>
     requires set { IsSet P Q W }
     requires len { length secret.now ≡ secret_len (set_of P Q W) }
     ensures tested { IfOk result (λ answer. IsSome answer ↔ (is_secret (set_of P Q W) secret.now ≡ true)) }
@@ -90,8 +100,16 @@ pub(crate) fn from_secret<const P: usize, const Q: i32, const W: usize>(alloc: G
     }
     let small = P / 4 + 1;
     let at = 2 * small + public_len::<P, Q, W>();
-    let again = spelled::<P, Q, W>(alloc, f.as_slice(), g_inverse.as_slice(), h.as_slice(), part(secret, at, small))?;
-    if !is_tested::<P, Q, W>(f.as_slice(), g_inverse.as_slice(), h.as_slice()) || again.as_slice() != secret {
+    let again = spelled::<P, Q, W>(
+        alloc,
+        f.as_slice(),
+        g_inverse.as_slice(),
+        h.as_slice(),
+        part(secret, at, small),
+    )?;
+    if !is_tested::<P, Q, W>(f.as_slice(), g_inverse.as_slice(), h.as_slice())
+        || again.as_slice() != secret
+    {
         return Ok(None);
     }
     Ok(Some(TestedPair {
@@ -103,7 +121,10 @@ pub(crate) fn from_secret<const P: usize, const Q: i32, const W: usize>(alloc: G
 }
 
 /// Copies the public key out of a pair.
-pub(crate) fn copy_public<const P: usize, const Q: i32, const W: usize>(pair: &TestedPair<P>, into: &mut [u8])
+pub(crate) fn copy_public<const P: usize, const Q: i32, const W: usize>(
+    pair: &TestedPair<P>,
+    into: &mut [u8],
+)
     requires set { IsSet P Q W }
     requires room { length into.old ≡ public_len (set_of P Q W) }
     ensures { into.new ≡ public_in (set_of P Q W) pair.now.secret.items }

@@ -31,8 +31,11 @@ impl Kem for Sntrup761 {
     ghost CIPHER_LEN = { 1039 };
 
     const SET: u8 = 1;
+
     const PUBLIC_LEN: usize = 1158;
+
     const SECRET_LEN: usize = 1763;
+
     const CIPHER_LEN: usize = 1039;
 
     type Pair = TestedPair<761>;
@@ -106,8 +109,11 @@ impl Kem for Drill37 {
     ghost CIPHER_LEN = { 58 };
 
     const SET: u8 = 2;
+
     const PUBLIC_LEN: usize = 33;
+
     const SECRET_LEN: usize = 95;
+
     const CIPHER_LEN: usize = 58;
 
     type Pair = TestedPair<37>;

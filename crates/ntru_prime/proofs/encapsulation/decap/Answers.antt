@@ -9,7 +9,7 @@ returns-then-is_none g c =
     (read_none c.read_rounded.result c.read_rounded.new.c c.is_none.result _ c.is_none.ensures c.if-is_none.true c.read_rounded.ensures)
 
 pub find_r-requires : goal.find_r-requires
-find_r-requires g c = ?
+find_r-requires g c = (omega arith, (c.requires.set, (omega arith, (core_centred c.requires.set _ c.read_rounded.new.c (read_some c.read_rounded.result c.read_rounded.new.c c.is_none.result _ c.is_none.ensures c.if-is_none.false c.read_rounded.ensures), omega arith))))
 
 pub returns : goal.returns
 returns g c =
