@@ -1,5 +1,5 @@
 -- Polynomials and bytes drawn from a stream of words of 32 bits. A stream is a function: word n for each n from 0 on.
-use Rattle.std.specs.Prelude.{ℕ, zero, suc, ◌+◌, ◌*◌, ◌/◌, ◌%◌, ◌^◌, Bool, true, false, Option, Some, None, List, [], ◌∷◌, map, take, ℤ, nat_lt, nat_le, if◌then◌else◌}
+use Rattle.std.specs.Prelude.{ℕ, zero, suc, ◌+◌, ◌*◌, ◌/◌, ◌%◌, ◌^◌, Option, Some, None, List, [], ◌∷◌, map, take, ℤ, nat_lt, nat_le, if◌then◌else◌}
 use Rattle.std.specs.List.{flat_map, range_with_len}
 use Rattle.byteorder.specs.Endian.{little_bytes}
 use Rattle.ntru_codec.specs.Small.{coefficient_of}
@@ -51,6 +51,6 @@ pub record Invertible : Type 0 where
 unfoldable pub first_invertible : ℕ → ℕ → (Stream → List ℤ) → (List ℤ → Option (List ℤ)) → Stream → Option Invertible
 first_invertible p zero draw invert words = None
 first_invertible p (suc tries) draw invert words = elim (invert (draw words)) [
-    Some inverse ↦ Some (record { drawn = draw words; inverse = inverse; left = behind p words })
+  | Some inverse ↦ Some (record { drawn = draw words; inverse = inverse; left = behind p words })
   | None ↦ first_invertible p tries draw invert (behind p words)
-  ]
+]

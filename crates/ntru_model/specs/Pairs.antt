@@ -50,15 +50,15 @@ is_tested s pair =
 unfoldable pub fields_read : Parameters → List ℕ → Option KeyPair
 fields_read s bytes =
     option_and_then (λ f. option_and_then (λ g_inverse. option_map
-      (λ h. record
-        { f = f
-        ; g_inverse = g_inverse
-        ; h = h
-        ; rho = take (small_len s) (drop (small_len s + small_len s + public_len s) bytes)
-        })
-      (public_read s (take (public_len s) (drop (small_len s + small_len s) bytes))))
-      (small_read s.p (take (small_len s) (drop (small_len s) bytes))))
-      (small_read s.p (take (small_len s) bytes))
+    (λ h. record {
+      f = f;
+      g_inverse = g_inverse;
+      h = h;
+      rho = take (small_len s) (drop (small_len s + small_len s + public_len s) bytes);
+    })
+    (public_read s (take (public_len s) (drop (small_len s + small_len s) bytes))))
+    (small_read s.p (take (small_len s) (drop (small_len s) bytes))))
+    (small_read s.p (take (small_len s) bytes))
 
 -- the tested pair whose secret key the bytes are, where there is one
 unfoldable pub secret_read : Parameters → List ℕ → Option KeyPair
@@ -74,11 +74,11 @@ tries = 16
 unfoldable pub pair_drawn : Parameters → Stream → Option KeyPair
 pair_drawn s words =
     option_and_then (λ g. option_map
-      (λ f. record
-        { f = f.drawn
-        ; g_inverse = g.inverse
-        ; h = product_mod s.p s.q g.drawn f.inverse
-        ; rho = bytes_draw (small_len s) f.left
-        })
-      (first_invertible s.p tries (short_draw s.p s.w) (λ f. inverse_mod s.p s.q (multiple_of (pos 3) f)) g.left))
-      (first_invertible s.p tries (small_draw s.p) (inverse_mod s.p 3) words)
+    (λ f. record {
+      f = f.drawn;
+      g_inverse = g.inverse;
+      h = product_mod s.p s.q g.drawn f.inverse;
+      rho = bytes_draw (small_len s) f.left;
+    })
+    (first_invertible s.p tries (short_draw s.p s.w) (λ f. inverse_mod s.p s.q (multiple_of (pos 3) f)) g.left))
+    (first_invertible s.p tries (small_draw s.p) (inverse_mod s.p 3) words)
