@@ -8,3 +8,4 @@ pub mod Solving
 pub mod Makes
 pub mod FieldReads
 pub mod Tests
+pub mod Secrets

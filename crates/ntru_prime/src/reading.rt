@@ -1,6 +1,6 @@
 // Pairs read from secret keys.
 
-ghost use Rattle.std.specs.Prelude.{◌≡◌, ℕ, ◌↔◌, true, List, ℤ, Some, None, length, All, IfOk, IfSome, IsSome, take, drop, ◌+◌};
+ghost use Rattle.std.specs.Prelude.{◌≡◌, ℕ, ◌↔◌, true, List, ℤ, Some, None, length, All, IfOk, IfSome, IsSome, OnSome, take, drop, ◌+◌};
 ghost use Rattle.std.specs.Option.{option_map};
 ghost use Rattle.ring_poly.specs.Ring.{IsCentred};
 ghost use Rattle.ntru_codec.specs.Small.{IsSmall};
@@ -32,7 +32,10 @@ fn read_fields<const P: usize, const Q: i32, const W: usize>(
     requires f_len { length f.old ≡ P }
     requires g_len { length g_inverse.old ≡ P }
     requires h_len { length h.old ≡ P }
-    ensures { option_map (λ _. pair_with (set_of P Q W) f.new g_inverse.new h.new secret.now) result ≡ fields_read (set_of P Q W) secret.now }
+    ensures fields { option_map (λ _. pair_with (set_of P Q W) f.new g_inverse.new h.new secret.now) result ≡ fields_read (set_of P Q W) secret.now }
+    ensures f_small { OnSome result (All IsSmall f.new) }
+    ensures g_small { OnSome result (All IsSmall g_inverse.new) }
+    ensures h_centred { OnSome result (All (IsCentred Q) h.new) }
 {
     let small = P / 4 + 1;
     let public = public_len::<P, Q, W>();
@@ -107,9 +110,10 @@ pub(crate) fn from_secret<const P: usize, const Q: i32, const W: usize>(
         h.as_slice(),
         part(secret, at, small),
     )?;
-    if !is_tested::<P, Q, W>(f.as_slice(), g_inverse.as_slice(), h.as_slice())
-        || again.as_slice() != secret
-    {
+    if !is_tested::<P, Q, W>(f.as_slice(), g_inverse.as_slice(), h.as_slice()) {
+        return Ok(None);
+    }
+    if *again.as_slice() != *secret {
         return Ok(None);
     }
     Ok(Some(TestedPair {
