@@ -1,7 +1,8 @@
 -- What holds of the lengths of both sets.
-use Rattle.std.proofs.Common.{◌≡◌, refl, ap, subst, sym, ℕ, ◌+◌, ◌/◌, ◌≤◌, ℤ, arith, ⊎_elim}
+use Rattle.std.proofs.Common.{◌≡◌, refl, ap, subst, sym, ℕ, ◌+◌, ◌/◌, ◌≤◌, ℤ, pos, arith, rules, ⊎_elim, Option, Some, None, is_some}
+use Rattle.std.specs.Option.{option_map}
 use Rattle.ntru_codec.specs.Mixed.{given_off, left_over, round_bytes, next_round, encoding_in, mixed_len}
-use Rattle.ntru_model.specs.Parameters.{Parameters, sntrup761, drill37, public_len, core_len, cipher_len}
+use Rattle.ntru_model.specs.Parameters.{Parameters, sntrup761, drill37, public_len, core_len, cipher_len, secret_len}
 use Rattle.ntru_prime.specs.Sets.{IsSet, set_of}
 
 pub large_public : mixed_len 761 4591 ≡ 1158
@@ -35,3 +36,20 @@ public_few_by {p} {q} {w} set n e = subst (λ k. k ≤ 1158) (sym e) (public_few
 
 pub cipher_few : {p : ℕ} {q : ℤ} {w : ℕ} → IsSet p q w → (n : ℕ) → n ≡ cipher_len (set_of p q w) → n ≤ 1039
 cipher_few {p} {q} {w} set n e = subst (λ k. k ≤ 1039) (sym e) (let few = core_few p q w set in omega arith)
+
+pub large_secret : secret_len sntrup761 ≡ 1763
+large_secret = ap (λ n. 191 + 191 + n + 191 + 32) large_public
+
+pub little_secret : secret_len drill37 ≡ 95
+little_secret = ap (λ n. 10 + 10 + n + 10 + 32) little_public
+
+pub large_set : IsSet 761 (pos 4591) 286
+large_set = search rules
+
+pub little_set : IsSet 37 (pos 127) 7
+little_set = search rules
+
+-- a function keeps whether a value is there
+pub is_some-map : {A B : Type 0} (f : A → B) (o : Option A) → is_some o ≡ is_some (option_map f o)
+is_some-map f (Some a) = refl
+is_some-map f None = refl
