@@ -1,3 +1,4 @@
 pub mod Counts
 pub mod Reading
 pub mod Cause
+pub mod Plan
