@@ -1,6 +1,5 @@
 pub mod Post
 pub mod Sink
-pub mod Calls
 pub mod Files
 pub mod MemPost
 pub mod MemEntropy
