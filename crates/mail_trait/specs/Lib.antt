@@ -1,5 +1,6 @@
 pub mod Post
 pub mod Sink
+pub mod FileName
 pub mod Files
 pub mod MemPost
 pub mod MemEntropy
