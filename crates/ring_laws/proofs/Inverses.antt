@@ -1,22 +1,20 @@
--- The polynomial 1, and what excludes an inverse.
-use Rattle.std.proofs.Common.{◌≡◌, ℕ, zero, suc, ◌+◌, ◌-◌, ◌<◌, List, [], ◌∷◌, length, ℤ, pos, negsuc, ◌+ℤ◌, ◌*ℤ◌, refl, sym, ap, subst, ◌∙◌, ⊎_elim, arith}
+-- The polynomials 1 and 0 as factors, what excludes an inverse, and that there is one at most.
+use Rattle.std.proofs.Common.{◌≡◌, ℕ, zero, suc, ◌+◌, ◌-◌, ◌<◌, List, [], ◌∷◌, length, ℤ, pos, ◌*ℤ◌, refl, sym, ap, subst, ◌∙◌, All, arith}
 use Rattle.std.proofs.lemmas.Int.{ints}
-use Rattle.std.proofs.lemmas.Bool.{cases_lt}
-use Rattle.std.proofs.lemmas.List.{get_or_past, ext_get_or, length-replicate, get_or-replicate}
-use Rattle.std.proofs.Math.IntN.{*ℤ_comm, zero-*ℤ, pos-*ℤ-pos, negsuc-*ℤ-pos}
-use Rattle.ring_poly.specs.Ring.{coefficient, product, weighted, IsCentred, IsCongruent, AreCongruent}
+use Rattle.std.proofs.lemmas.List.{ext_get_or, length-replicate}
+use Rattle.std.proofs.Math.IntN.{*ℤ_comm, zero-*ℤ}
+use Rattle.ring_poly.specs.Ring.{coefficient, product, weighted, IsCentred, AreCongruent}
 use Rattle.ring_poly.proofs.Weighted.{back, entry}
 use Rattle.ring_poly.proofs.WindowSums.{length-product}
 use Rattle.ring_poly.proofs.Commutes.{product_comm}
-use Rattle.ring_poly.proofs.Congruences.{IsCongruent-back, IsCongruent-then, times_one}
+use Rattle.ring_poly.proofs.Congruences.{times_one}
 use Rattle.ring_solve.specs.Fields.{one, zero_of}
-use Rattle.ring_laws.specs.Laws.{HasInverse}
+use Rattle.ring_solve.specs.Solutions.{Solves, coefficients_of}
+use Rattle.ring_solve.specs.declared.answer.Solved.{Solved}
+use Rattle.ring_solve.specs.declared.answer.Solved.TheVariants.{Inverse, Kernel}
+use Rattle.ring_laws.specs.Laws.{HasInverse, Shows}
 use Rattle.ring_laws.proofs.Turning.{by_second, coefficient_past, product_assoc, product_respects}
-
-coefficient-zeros : (n k : ℕ) → coefficient (zero_of n) k ≡ pos 0
-coefficient-zeros n k =
-    let l = length-replicate n (pos 0) in
-    ⊎_elim (λ lt. get_or-replicate n k (pos 0) (pos 0) lt) (λ ge. get_or_past (zero_of n) k (pos 0) (omega arith)) (cases_lt k n)
+use Rattle.ring_laws.proofs.Polynomials.{AreCongruent-back, AreCongruent-then, coefficient-zeros, centred_nonzero, centred_same}
 
 weighted_blank : (a : List ℤ) (g : ℕ → ℤ) → ((k : ℕ) → coefficient a k ≡ pos 0) → weighted a g ≡ pos 0
 weighted_blank [] g h = refl
@@ -34,7 +32,7 @@ entry_first p a (suc k) len =
     omega (arith, ints)
 
 -- a times 1 is a
-product_one : (p : ℕ) (a : List ℤ) → length a ≡ p → product p a (one p) ≡ a
+pub product_one : (p : ℕ) (a : List ℤ) → length a ≡ p → product p a (one p) ≡ a
 product_one p a len =
     let l = length-product p a (one p) in
     ext_get_or (pos 0) (product p a (one p)) a (omega arith) (λ k below.
@@ -44,23 +42,13 @@ product_one p a len =
     by_second p a (one p) k lt ∙ (let e : weighted (one p) (entry p a k) ≡ coefficient a k = omega (arith, ints) in e))
 
 -- a times 0 is 0
-product_zero : (p : ℕ) (a : List ℤ) → product p a (zero_of p) ≡ zero_of p
+pub product_zero : (p : ℕ) (a : List ℤ) → product p a (zero_of p) ≡ zero_of p
 product_zero p a =
     let l = length-product p a (zero_of p) in
     let z = length-replicate p (pos 0) in
     ext_get_or (pos 0) (product p a (zero_of p)) (zero_of p) (omega arith) (λ k below.
     let lt : k < p = omega arith in
     by_second p a (zero_of p) k lt ∙ weighted_blank (zero_of p) (entry p a k) (coefficient-zeros p) ∙ sym (coefficient-zeros p k))
-
-AreCongruent-back : (m : ℤ) (a b : List ℤ) → AreCongruent m a b → AreCongruent m b a
-AreCongruent-back m a b h =
-    let l = h.len in
-    record { len = sym l; each = λ k lt. IsCongruent-back m _ _ (h.each k (omega arith)) }
-
-AreCongruent-then : (m : ℤ) (a b c : List ℤ) → AreCongruent m a b → AreCongruent m b c → AreCongruent m a c
-AreCongruent-then m a b c h g =
-    let l = g.len in
-    record { len = h.len ∙ l; each = λ k lt. IsCongruent-then m _ _ _ (h.each k (omega arith)) (g.each k lt) }
 
 -- z is z (a b), which is b (a z), which is 0
 inverse_leaves_zero : (p : ℕ) (m : ℤ) (a b z : List ℤ) → 1 < p → length a ≡ p → length b ≡ p → length z ≡ p
@@ -79,11 +67,25 @@ pub kernel_excludes : (p : ℕ) (m : ℤ) (a z : List ℤ) → 1 < p → length 
     → AreCongruent m (product p a z) (zero_of p) → HasInverse p m a → ⊥
 kernel_excludes p m a z some la lz nonzero kernel inverse = nonzero (inverse_leaves_zero p m a inverse.0 z some la inverse.1 lz kernel inverse.2)
 
-pub centred_equal : (m c d : ℤ) → IsCentred m c → IsCentred m d → IsCongruent m c d → c ≡ d
-centred_equal (pos m) c d v w h = by_factor h.factor h.is
-  where
-    by_factor : (k : ℤ) → c ≡ d +ℤ k *ℤ pos m → c ≡ d
-    by_factor (pos zero) e = let z = zero-*ℤ (pos m) in omega (arith, ints)
-    by_factor (pos (suc n)) e = let t = pos-*ℤ-pos (suc n) m in let high = v.1 in let low = w.0 in absurd (omega (arith, ints))
-    by_factor (negsuc n) e = let t = negsuc-*ℤ-pos n m in let low = v.0 in let high = w.1 in absurd (omega (arith, ints))
-centred_equal (negsuc m) c d v w h = let low = v.0 in let high = v.1 in absurd (omega (arith, ints))
+-- b is b (a c), which is c (a b), which is c
+pub inverses_congruent : (p : ℕ) (m : ℤ) (a b c : List ℤ) → 1 < p → length a ≡ p → length b ≡ p → length c ≡ p
+    → AreCongruent m (product p a b) (one p) → AreCongruent m (product p a c) (one p) → AreCongruent m b c
+inverses_congruent p m a b c some la lb lc by_b by_c =
+    let turned : product p b (product p a c) ≡ product p c (product p a b) =
+    sym (product_assoc p b a c some lb la lc) ∙ product_comm p (product p b a) c ∙ ap (λ x. product p c x) (product_comm p b a) in
+    let to_b : AreCongruent m (product p b (product p a c)) b =
+    (let P : List ℤ → Type 0 = λ x. AreCongruent m (product p b (product p a c)) x in subst P (product_one p b lb) (product_respects p m b (product p a c) (one p) by_c)) in
+    let to_c : AreCongruent m (product p c (product p a b)) c =
+    (let P : List ℤ → Type 0 = λ x. AreCongruent m (product p c (product p a b)) x in subst P (product_one p c lc) (product_respects p m c (product p a b) (one p) by_b)) in
+    AreCongruent-then m b (product p b (product p a c)) c (AreCongruent-back m _ _ to_b)
+    (let P : List ℤ → Type 0 = λ x. AreCongruent m x c in subst P (sym turned) to_c)
+
+pub inverses_equal : (p : ℕ) (m : ℤ) (a b c : List ℤ) → 1 < p → length a ≡ p → length b ≡ p → length c ≡ p → All (IsCentred m) b → All (IsCentred m) c
+    → AreCongruent m (product p a b) (one p) → AreCongruent m (product p a c) (one p) → b ≡ c
+inverses_equal p m a b c some la lb lc v w by_b by_c = centred_same m b c v w (inverses_congruent p m a b c some la lb lc by_b by_c)
+
+-- what the solver answers shows whether there is an inverse
+pub answer_shows : (p : ℕ) (m : ℤ) (a : List ℤ) (s : Solved) → 1 < p → length a ≡ p → length (coefficients_of s) ≡ p → All (IsCentred m) (coefficients_of s)
+    → Solves p m a s → Shows p m a s
+answer_shows p m a (Inverse b) some la ls v h = (b, ls, h)
+answer_shows p m a (Kernel z) some la ls v h = kernel_excludes p m a z some la ls (centred_nonzero p m z (omega arith) ls v h.1) h.0

@@ -1,3 +1,4 @@
 pub mod Turning
+pub mod Polynomials
 pub mod Small
 pub mod Inverses

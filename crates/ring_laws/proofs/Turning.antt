@@ -166,12 +166,12 @@ weighted-sum (c ∷ a) (d ∷ b) g e =
 weighted-sum [] (d ∷ b) g e = absurd (omega arith)
 weighted-sum (c ∷ a) [] g e = absurd (omega arith)
 
-length-sum_of : (a b : List ℤ) → length a ≡ length b → length (sum_of a b) ≡ length a
+pub length-sum_of : (a b : List ℤ) → length a ≡ length b → length (sum_of a b) ≡ length a
 length-sum_of [] b e = refl
 length-sum_of (c ∷ a) (d ∷ b) e = let r = length-sum_of a b (omega arith) in omega arith
 length-sum_of (c ∷ a) [] e = absurd (omega arith)
 
-coefficient-sum_of : (a b : List ℤ) (k : ℕ) → length a ≡ length b → coefficient (sum_of a b) k ≡ coefficient a k +ℤ coefficient b k
+pub coefficient-sum_of : (a b : List ℤ) (k : ℕ) → length a ≡ length b → coefficient (sum_of a b) k ≡ coefficient a k +ℤ coefficient b k
 coefficient-sum_of [] [] k e = refl
 coefficient-sum_of (c ∷ a) (d ∷ b) zero e = refl
 coefficient-sum_of (c ∷ a) (d ∷ b) (suc k) e = coefficient-sum_of a b k (omega arith)

@@ -3,6 +3,8 @@ use Rattle.std.specs.Prelude.{◌≡◌, ℕ, zero, suc, Bool, true, false, List
 use Rattle.std.specs.List.{count_by}
 use Rattle.ring_poly.specs.Ring.{product, AreCongruent, IsWithin}
 use Rattle.ring_solve.specs.Fields.{one}
+use Rattle.ring_solve.specs.declared.answer.Solved.{Solved}
+use Rattle.ring_solve.specs.declared.answer.Solved.TheVariants.{Inverse, Kernel}
 
 -- the sum, coefficient by coefficient
 abbrev pub sum_of : List ℤ → List ℤ → List ℤ
@@ -31,3 +33,8 @@ pub record IsShort (w : ℕ) (a : List ℤ) : Type 0 where
 -- some polynomial of p coefficients times a is 1 modulo m
 abbrev pub HasInverse : ℕ → ℤ → List ℤ → Type 0
 HasInverse p m a = (b : List ℤ) × (length b ≡ p) × AreCongruent m (product p a b) (one p)
+
+-- what an answer of the solver shows of a
+abbrev pub Shows : ℕ → ℤ → List ℤ → Solved → Type 0
+Shows p m a (Inverse b) = HasInverse p m a
+Shows p m a (Kernel z) = HasInverse p m a → ⊥

@@ -1,4 +1,4 @@
-use Rattle.ring_laws.proofs.Inverses.{centred_equal}
+use Rattle.ring_laws.proofs.Polynomials.{centred_equal}
 use Rattle.ring_laws.proofs.separates_centred.Goals as goal
 
 pub returns : goal.returns
