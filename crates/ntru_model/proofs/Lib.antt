@@ -1,0 +1,16 @@
+pub mod Search
+pub mod Residues
+pub mod Streams
+pub mod Sorting
+pub mod Injective
+pub mod Inverses
+pub mod Readers
+pub mod Options
+pub mod Small
+pub mod Drawn
+pub mod Sets
+pub mod Bytes
+pub mod Tested
+pub mod DrawnPairs
+pub mod Undone
+pub mod Computed
