@@ -13,6 +13,7 @@ pub mod Moves
 pub mod Queues
 pub mod Chains
 pub mod Theorem
+pub mod Ascending
 pub mod Rows
 pub mod Settled
 pub mod Conduct
