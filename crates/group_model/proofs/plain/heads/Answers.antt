@@ -1,5 +1,5 @@
-use Rattle.std.proofs.Common.{◌≡◌, ◌⊎◌, ◌↔◌, inl, inr, refl, sym, subst, ap, take}
-use Rattle.group_model.specs.Sets.{Id, In, IsAscending}
+use Rattle.std.proofs.Common.{◌≡◌, ◌⊎◌, ◌↔◌, inl, inr, sym, subst, ap}
+use Rattle.group_model.specs.Sets.{Id, In}
 use Rattle.group_model.specs.Messages.{Message, IsHead}
 use Rattle.group_model.specs.Plain.{message_of, history_of}
 use Rattle.group_model.proofs.Rows.{row-in, row-more}

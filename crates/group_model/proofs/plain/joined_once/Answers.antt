@@ -1,4 +1,4 @@
-use Rattle.std.proofs.Common.{◌≡◌, ◌-◌, ◌∙◌, arith}
+use Rattle.std.proofs.Common.{◌∙◌, arith}
 use Rattle.group_model.proofs.Rows.{joined-has, joined-new}
 use Rattle.group_model.proofs.plain.joined_once.Goals as goal
 

@@ -1,5 +1,5 @@
-use Rattle.std.proofs.Common.{◌⊎◌, ◌≡◌, ◌++◌, ◌∷◌, subst, sym, ◌∙◌, ap, take, drop}
-use Rattle.group_model.specs.Sets.{Id, In, IsAscending}
+use Rattle.std.proofs.Common.{◌≡◌, ◌++◌, ◌∷◌, subst, sym, ◌∙◌, ap, take, drop}
+use Rattle.group_model.specs.Sets.{In, IsAscending}
 use Rattle.group_model.specs.Plain.{place}
 use Rattle.group_model.proofs.Ascending.{into-placed, into-ascending, placed-In, In-placed}
 use Rattle.group_model.proofs.plain.with_id.Goals as goal
