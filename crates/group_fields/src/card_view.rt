@@ -16,13 +16,13 @@ use std::alloc::Global;
 use std::marker::Model;
 
 // Where the fields begin.
+const SET_PLACE: usize = 2;
+
 const LMS_PLACE: usize = 3;
 
 const INVITER_PLACE: usize = 59;
 
 const KEM_PLACE: usize = 91;
-
-const SET_PLACE: usize = 2;
 
 /// A card that is lent out of the bytes that spell it. Contracts see the card.
 #[derive(Debug, Drop)]

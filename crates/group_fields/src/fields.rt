@@ -1,6 +1,6 @@
 // Readers of one field each.
 
-ghost use Rattle.std.specs.Prelude.{◌≡◌, ◌<◌, ◌^◌, IfOk, ◌≤◌, [], length, slice_index};
+ghost use Rattle.std.specs.Prelude.{◌≡◌, ◌<◌, ◌^◌, [], slice_index, IfOk};
 ghost use Rattle.std.specs.Int.{w8, w32, from_be_bytes};
 ghost use Rattle.group_fields.specs.Fields.{any_bytes, number_from, value_at};
 ghost use Rattle.group_fields.specs.Reads.{TakesField, fault_in, first_fault};
