@@ -62,6 +62,42 @@ fn add_multiple(factor: u32, from: usize, row: &mut [u32], basis: &[u16], at: us
     }
 }
 
+/// The same where each product fits 16 bits, so that more of them are made at once.
+fn add_small_multiple(factor: u16, from: usize, row: &mut [u32], basis: &[u16], at: usize)
+    requires place { at + length row.old ≤ length basis.now }
+    requires room { length basis.now < 2 ^ 62 }
+    requires before { (j : ℕ) → j < from → slice_index basis.now (at + j) ≡ 0 }
+    requires narrow { (k : ℕ) → factor * slice_index basis.now k < 2 ^ 16 }
+    requires fits { (j : ℕ) → j < length row.old → slice_index row.old j + factor * slice_index basis.now (at + j) < 2 ^ 32 }
+    ensures { (j : ℕ) → j < length row.old → slice_index row.new j ≡ slice_index row.old j + factor * slice_index basis.now (at + j) }
+{
+    for j in from..row.len() {
+        row[j] += u32::from(factor * basis[at + j]);
+    }
+}
+
+/// Up to this modulus the product of two numbers below it fits 16 bits.
+const NARROW: u32 = 256;
+
+/// Adds to the row a multiple of the row that is kept for a column and begins at a place. It starts a little before the
+/// column, where that row has 0, so that whole groups of numbers are added at once.
+#[inline(always)]
+fn add_kept(m: u32, factor: u32, c: usize, row: &mut [u32], basis: &[u16], at: usize)
+    requires factor { factor < m }
+    requires below { (k : ℕ) → slice_index basis.now k < m }
+    requires place { at + length row.old ≤ length basis.now }
+    requires room { length basis.now < 2 ^ 62 }
+    requires before { (j : ℕ) → j < c → slice_index basis.now (at + j) ≡ 0 }
+    requires fits { (j : ℕ) → j < length row.old → slice_index row.old j + factor * slice_index basis.now (at + j) < 2 ^ 32 }
+    ensures { (j : ℕ) → j < length row.old → slice_index row.new j ≡ slice_index row.old j + factor * slice_index basis.now (at + j) }
+{
+    if m <= NARROW {
+        add_small_multiple(factor as u16, c - c % 16, row, basis, at);
+        return;
+    }
+    add_multiple(factor, c - c % 8, row, basis, at);
+}
+
 /// Writes the row times a number, modulo m, to a place of the basis.
 #[inline(always)]
 fn keep(m: u32, scale: u32, row: &[u32], basis: &mut [u16], at: usize)
@@ -120,7 +156,7 @@ fn clear(m: u32, lead: u32, c: usize, steps: u32, row: &mut [u32], basis: &[u16]
 {
     let at = c * row.len();
     let taken = settle(m, steps, row);
-    add_multiple(m - lead, c, row, basis, at);
+    add_kept(m, m - lead, c, row, basis, at);
     taken + 1
 }
 
