@@ -89,8 +89,8 @@ history_of_cyd =
     ∷ creation ∷ []
 
 -- A lawful world with these histories. Each of the three is entitled to bob's ack that forwards, and learnt its update
--- secret, which is not that of ada's add-ack. cyd, who was added beside the update, learnt both by parts alone. What ada
--- and bob read as the question is what cyd sent.
+-- secret, which is not that of ada's add-ack: cyd too, who was added beside the update and had no part of it. What ada and
+-- bob read as the question is what cyd sent.
 pub record ThreeMembers : Type 0 where
   pub setting : Setting
   pub removes_win : setting.rule ≡ remove_wins

@@ -575,7 +575,7 @@ pub fn is_below(one: &[u8; 32], other: &[u8; 32]) -> bool
     }
 }
 
-/// Whether no predecessor of the messages is this message, one of them: whether it is a head of theirs.
+/// Whether the message, one of the list, is a head: none of the list has it among its predecessors.
 pub fn is_head(rows: &[Row], row: &Row) -> bool
     ensures { In (message_of row.now) (history_of rows.now)
         → (IsTrue result ↔ IsHead (history_of rows.now) (message_of row.now)) }
@@ -674,7 +674,7 @@ pub fn named_ids(alloc: Global, rows: &[Row]) -> Result<Vec<[u8; 32]>, AllocErro
     Ok(ids)
 }
 
-/// Whether a message of the sender steps its ratchet.
+/// Whether the message is the sender's and steps its ratchet.
 fn is_own_step(row: &Row, sender: &[u8; 32]) -> bool
     ensures { IsTrue result ↔ ((row.now.sender ≡ sender.now) × StepsRatchet (kind_of row.now.kind)) }
 {
