@@ -9,6 +9,7 @@ use Rattle.std.proofs.lemmas.List.{take-append-drop}
 use Rattle.std.proofs.lemmas.Map.Lookups.{exact_bytes}
 use Rattle.group_model.specs.Sets.{Id, In, here, there, IsBelow, IsAscending}
 use Rattle.group_model.specs.Messages.{Message, History, IsHead, AreHeads}
+use Rattle.group_model.specs.Membership.{AreAddressees}
 use Rattle.group_model.specs.Plain.{place}
 use Rattle.group_model.proofs.Pasts.{past-least, past-direct}
 use Rattle.group_model.proofs.ListFacts.{In-cases, In-head, In-nothing, In-either, In-left, In-right}
@@ -82,6 +83,10 @@ heads-same p a b g h = ascending-same a b g.ascending h.ascending (λ x i. from 
   where
     from : (a b : List Id) → AreHeads p a → AreHeads p b → (x : Id) → In x a → In x b
     from a b g h x i = let k = g.only x i in subst (λ z. In z b) k.2 (h.all k.0 k.1)
+
+-- and so is that of the addressees
+pub addressees-same : (rule : History → List Id) (h : History) (m : Message) (a b : List Id) → AreAddressees rule h m a → AreAddressees rule h m b → a ≡ b
+addressees-same rule h m a b g k = ascending-same a b g.ascending k.ascending (λ x i. k.all x (g.only x i)) (λ x i. g.all x (k.only x i))
 
 -- the ids with i before the first that is not before it
 abbrev pub into : List Id → Id → List Id

@@ -378,7 +378,7 @@ module _ (rule : History → List Id) where
         ];
       })
 
-  addressee-named : IsMembershipRule rule → (h : History) (m : Message) (k : Kind) (y : Id) → In m h → m.kind ≡ k → IsAddressee rule h m k y → In y (ids_named h)
+  pub addressee-named : IsMembershipRule rule → (h : History) (m : Message) (k : Kind) (y : Id) → In m h → m.kind ≡ k → IsAddressee rule h m k y → In y (ids_named h)
   addressee-named r h m (Create members) y i e a = view-named r h m y i a.in_view
   addressee-named r h m Update y i e a = view-named r h m y i a.in_view
   addressee-named r h m (Remove z) y i e a = view-named r h m y i a.in_view

@@ -183,15 +183,47 @@ id-in [] n d l = absurd (omega arith)
 id-in (j ∷ ids) zero d l = here
 id-in (j ∷ ids) (suc n) d l = there (id-in ids n d (omega arith))
 
+-- one more id
+pub id-more : (ids : List Id) (n : ℕ) (d : Id) → n < length ids → (x : Id) → In x (take (n + 1) ids) → (x ≡ get_or ids n d) ⊎ In x (take n ids)
+id-more ids n d l x j = elim (In-either (take n ids) (subst (λ z. In x z) (take_more ids n d l) j)) [
+  | inl k ↦ inr k
+  | inr k ↦ elim (In-cases k) [
+    | inl e ↦ inl e
+    | inr q ↦ absurd (In-nothing q)
+  ]
+]
+
+-- those of the ids so far that are wanted, where the next is wanted and where it is not
+pub kept-more : (P : Id → Type 0) (named : List Id) (n : ℕ) (d : Id) (ids wider : List Id) → n < length named
+    → ((y : Id) → In y (take n named) → P y → In y ids)
+    → ((x : Id) → (In x wider → (x ≡ get_or named n d) ⊎ In x ids) × ((x ≡ get_or named n d) ⊎ In x ids → In x wider))
+    → (y : Id) → In y (take (n + 1) named) → P y → In y wider
+kept-more P named n d ids wider l before same y j p = elim (id-more named n d l y j) [
+  | inl e ↦ (same y).1 (inl e)
+  | inr k ↦ (same y).1 (inr (before y k p))
+]
+
+pub kept-only : (P : Id → Type 0) (i : Id) (ids wider : List Id) → P i → ((y : Id) → In y ids → P y)
+    → ((x : Id) → (In x wider → (x ≡ i) ⊎ In x ids) × ((x ≡ i) ⊎ In x ids → In x wider)) → (y : Id) → In y wider → P y
+kept-only P i ids wider hit before same y j = elim ((same y).0 j) [
+  | inl e ↦ subst P (sym e) hit
+  | inr k ↦ before y k
+]
+
+pub kept-left : (P : Id → Type 0) (named : List Id) (n : ℕ) (d : Id) (ids : List Id) → n < length named
+    → ((y : Id) → In y (take n named) → P y → In y ids) → (P (get_or named n d) → ⊥)
+    → (y : Id) → In y (take (n + 1) named) → P y → In y ids
+kept-left P named n d ids l before miss y j p = elim (id-more named n d l y j) [
+  | inl e ↦ absurd (miss (subst P e p))
+  | inr k ↦ before y k p
+]
+
 -- all of the ids so far
 pub all-more_ids : (P : Id → Type 0) (ids : List Id) (n : ℕ) (d : Id) → n < length ids
     → ((x : Id) → In x (take n ids) → P x) → P (get_or ids n d) → (x : Id) → In x (take (n + 1) ids) → P x
-all-more_ids P ids n d l before hit x j = elim (In-either (take n ids) (subst (λ z. In x z) (take_more ids n d l) j)) [
-  | inl k ↦ before x k
-  | inr k ↦ elim (In-cases k) [
-    | inl e ↦ subst P (sym e) hit
-    | inr q ↦ absurd (In-nothing q)
-  ]
+all-more_ids P ids n d l before hit x j = elim (id-more ids n d l x j) [
+  | inl e ↦ subst P (sym e) hit
+  | inr k ↦ before x k
 ]
 
 -- at the end the ids so far are all

@@ -1,5 +1,6 @@
 -- A history of three members, and what an example of a lawful world over it has to show: that the conditions of the
--- theorems can be met, by members that learn secrets and read texts.
+-- theorems can be met, by members that learn secrets and read texts. docs/SPECIFICATION.md, "The group", "Lawful worlds that
+-- there are".
 use Rattle.std.specs.Prelude.{◌≡◌, ◌≢◌, ℕ, true, false, List, [], ◌∷◌, Some, codes}
 use Rattle.group_model.specs.Sets.{Bytes, Id, In}
 use Rattle.group_model.specs.Messages.{Kind, Create, Update, Add, Ack, AddAck, Text, Message, History}
@@ -73,17 +74,23 @@ answer = message 19 ada 4 Text (numbered 18 ∷ [])
 
 -- each member's history, in the order in which it took and made the messages, the newest first
 abbrev pub history_of_ada : History
-history_of_ada = answer ∷ question ∷ update_acked ∷ forwarded ∷ addition_acked ∷ handed ∷ addition ∷ update ∷ creation_acked ∷ creation ∷ []
+history_of_ada =
+    answer ∷ question ∷ update_acked ∷ forwarded ∷ addition_acked ∷ handed ∷ addition ∷ update ∷ creation_acked
+    ∷ creation ∷ []
 
 abbrev pub history_of_bob : History
-history_of_bob = answer ∷ question ∷ update_acked ∷ handed ∷ addition_acked ∷ forwarded ∷ update ∷ addition ∷ creation_acked ∷ creation ∷ []
+history_of_bob =
+    answer ∷ question ∷ update_acked ∷ handed ∷ addition_acked ∷ forwarded ∷ update ∷ addition ∷ creation_acked
+    ∷ creation ∷ []
 
 abbrev pub history_of_cyd : History
-history_of_cyd = answer ∷ question ∷ handed ∷ forwarded ∷ update_acked ∷ update ∷ addition_acked ∷ addition ∷ creation_acked ∷ creation ∷ []
+history_of_cyd =
+    answer ∷ question ∷ handed ∷ forwarded ∷ update_acked ∷ update ∷ addition_acked ∷ addition ∷ creation_acked
+    ∷ creation ∷ []
 
--- A lawful world with these histories. Each of the three is entitled to bob's ack that forwards, and learnt its update secret, which
--- is not that of ada's add-ack. cyd, who was added beside the update, learnt both by parts alone. What ada and bob read as the question
--- is what cyd sent.
+-- A lawful world with these histories. Each of the three is entitled to bob's ack that forwards, and learnt its update
+-- secret, which is not that of ada's add-ack: cyd too, who was added beside the update and had no part of it. What ada and
+-- bob read as the question is what cyd sent.
 pub record ThreeMembers : Type 0 where
   pub setting : Setting
   pub removes_win : setting.rule ≡ remove_wins
@@ -113,8 +120,8 @@ pub record ThreeMembers : Type 0 where
   pub bob_read : text_of setting bob (log_of world bob) question ≡ Some (codes "hello")
   pub sent : (k : MadeBy world question) → k.given.text ≡ codes "hello"
 
--- A second history: ada created a group with bob and eve, who is none of the honest members. eve sends an ack, and an update without a
--- part for anybody. bob and ada answer it, and bob adds cyd, who joins by rows among which are those of eve.
+-- A second history: ada created a group with bob and eve, who is none of the honest members. eve sends an ack, and an
+-- update without a part for anybody. bob and ada answer it, and bob adds cyd, who joins by rows among which are eve's.
 abbrev pub eve : Id
 eve = 4 ∷ []
 
@@ -147,18 +154,21 @@ ratchet_of_ada = message 28 ada 3 (AddAck (numbered 26)) (numbered 25 ∷ number
 
 abbrev pub later_history_of_ada : History
 later_history_of_ada =
-    invitation_acked ∷ ratchet_of_ada ∷ invitation ∷ answer_of_bob ∷ answer_of_ada ∷ eves_update ∷ eves_ack ∷ opening_acked ∷ opening ∷ []
+    invitation_acked ∷ ratchet_of_ada ∷ invitation ∷ answer_of_bob ∷ answer_of_ada ∷ eves_update ∷ eves_ack
+    ∷ opening_acked ∷ opening ∷ []
 
 abbrev pub later_history_of_bob : History
 later_history_of_bob =
-    ratchet_of_ada ∷ answer_of_ada ∷ invitation_acked ∷ invitation ∷ answer_of_bob ∷ eves_update ∷ eves_ack ∷ opening_acked ∷ opening ∷ []
+    ratchet_of_ada ∷ answer_of_ada ∷ invitation_acked ∷ invitation ∷ answer_of_bob ∷ eves_update ∷ eves_ack
+    ∷ opening_acked ∷ opening ∷ []
 
 abbrev pub later_history_of_cyd : History
 later_history_of_cyd =
-    ratchet_of_ada ∷ answer_of_ada ∷ invitation_acked ∷ invitation ∷ answer_of_bob ∷ eves_update ∷ eves_ack ∷ opening_acked ∷ opening ∷ []
+    ratchet_of_ada ∷ answer_of_ada ∷ invitation_acked ∷ invitation ∷ answer_of_bob ∷ eves_update ∷ eves_ack
+    ∷ opening_acked ∷ opening ∷ []
 
--- A lawful world with these histories. cyd joined by a welcome with eve's rows, and still each member knows its own ratchet. ada and bob
--- are entitled to what bob made before he took anything of eve, and learnt one secret of it.
+-- A lawful world with these histories. cyd joined by a welcome with eve's rows, and knows its own ratchet still. ada and
+-- bob are entitled to what bob made before he took anything of eve, and learnt one secret of it.
 pub record RowsOfAnOutsider : Type 0 where
   pub setting : Setting
   pub removes_win : setting.rule ≡ remove_wins

@@ -1,4 +1,4 @@
--- The plain program's values as messages of the model.
+-- The plain program's values as messages of the model. docs/SPECIFICATION.md, "The group", "The plain program".
 use Rattle.std.specs.Prelude.{◌≡◌, ◌≢◌, ℕ, ◌+◌, Bool, true, cond, ◌⊎◌, List, [], ◌∷◌, map, replicate, bytes_eq}
 use Rattle.std.specs.Ordering.{nat_cmp, is_lt}
 use Rattle.std.specs.Cmp.Lexicographic.{slice_cmp}
@@ -60,6 +60,13 @@ pub record IsOlderThanMembership (p : History) (s : Id) (i : Id) : Type 0 where
   pub by : Message
   pub there_is : In by p
   pub brings : BringsInAfter p by s i
+
+-- a message of the set has the id and adds y
+pub record IsAddedBy (h : History) (i : Id) (y : Id) : Type 0 where
+  pub operation : Message
+  pub there_is : In operation h
+  pub has_id : operation.id ≡ i
+  pub adds : operation.kind ≡ Add y
 
 -- the operation suits an ack of s: a seeded one, taken only by its recipient, or the add of s
 abbrev pub SuitsAck : History → Id → (took : Bool) → Message → Type 0

@@ -1,5 +1,5 @@
 -- When a message is valid: seven rules over its past, each by its own name.
--- docs/SPECIFICATION.md, "The group", "Validity". The DCGKA paper leaves them to the application.
+-- docs/SPECIFICATION.md, "The group", "Validity". The rules are this project's own.
 use Rattle.std.specs.Prelude.{◌≡◌, ◌≢◌, ℕ, ◌+◌, ◌<◌, ◌≤◌, Bool, true, false, cond, ◌⊎◌, List, [], ◌∷◌, length, bytes_eq}
 use Rattle.group_model.specs.Sets.{Id, In}
 use Rattle.group_model.specs.Messages.{Kind, Create, Update, Remove, Add, Ack, AddAck, Text, Message, History, past, AreHeads}

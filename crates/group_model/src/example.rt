@@ -10,7 +10,7 @@ pub fn three_members()
 {}
 
 /// There is a lawful world in which a member joins by a welcome that hands on the rows of an outsider, who sent an update
-/// without parts. Each member knows its own ratchet all the same, and what was made before the outsider's messages is
+/// without parts. This member knows its own ratchet all the same, and what was made before the outsider's messages is
 /// agreed on.
 pub fn rows_of_an_outsider()
     ensures { RowsOfAnOutsider }
@@ -122,6 +122,47 @@ mod tests {
         for n in 1..4u8 {
             assert!(rt; is_forwarded_to(alloc, h, &id(12), forwarded, &id(n))? == (n == 3));
         }
+        Ok(())
+    }
+
+    // The history of cyd, 3, in the example with the rows of an outsider: ada is 1, bob is 2, and the outsider is 4.
+    fn history_with_rows(alloc: Global) -> Result<Vec<Row>, AllocError> {
+        let mut first = Vec::new(alloc);
+        first.push(id(1))?;
+        first.push(id(2))?;
+        first.push(id(4))?;
+        let mut rows = Vec::new(alloc);
+        rows.push(row(alloc, 28, 1, 3, Act::AddAck(id(26)), &[25, 26])?)?;
+        rows.push(row(alloc, 25, 1, 2, Act::Ack(id(23), false), &[23])?)?;
+        rows.push(row(alloc, 27, 3, 1, Act::Ack(id(26), true), &[26])?)?;
+        rows.push(row(alloc, 26, 2, 3, Act::Add(id(3)), &[24])?)?;
+        rows.push(row(alloc, 24, 2, 2, Act::Ack(id(23), false), &[23])?)?;
+        rows.push(row(alloc, 23, 4, 2, Act::Update, &[21, 22])?)?;
+        rows.push(row(alloc, 22, 4, 1, Act::Ack(id(20), true), &[20])?)?;
+        rows.push(row(alloc, 21, 2, 1, Act::Ack(id(20), true), &[20])?)?;
+        rows.push(row(alloc, 20, 1, 1, Act::Create(first), &[])?)?;
+        Ok(rows)
+    }
+
+    #[test]
+    fn rows_of_an_outsider_are_valid(rt: HostRuntime) -> Result<(), Fail> {
+        let alloc = rt.alloc();
+        let mut all = cards(alloc)?;
+        all.push(Card {
+            id: id(4),
+            inviter: id(1),
+        })?;
+        let rows = history_with_rows(alloc)?;
+        assert!(rt; rows.len() == 9);
+        let h = rows.as_slice();
+        assert!(rt; opens(all.as_slice(), &h[8]));
+        for at in 0..8usize {
+            assert!(rt; goes_on(alloc, all.as_slice(), &h[at + 1..], &h[at])?);
+        }
+        assert!(rt; heads(alloc, h)?.as_slice() == [id(27), id(28)].as_slice());
+        // The update had to have a part for each other member, which the outsider left out.
+        assert!(rt; addressees(alloc, h, &h[5])?.as_slice() == [id(1), id(2)].as_slice());
+        assert!(rt; !sends_parts(alloc, &h[6..], &h[5], [].as_slice())?);
         Ok(())
     }
 

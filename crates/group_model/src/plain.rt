@@ -1,14 +1,14 @@
-//! A small plain program that computes pasts, heads, membership, views, recipients, forwarding and the verdicts of the
-//! seven rules of validity on lists. It is slow, and its contracts are the definitions: later, faster code is compared
-//! with it.
+//! A small plain program that computes pasts, heads, membership, views, recipients, forwarding, addressees and the verdicts
+//! of the seven rules of validity on lists. It is slow, and its contracts are the definitions: later, faster code is
+//! compared with it.
 //! Histories are lists with the newest message first. The membership rule is "remove wins".
 
 ghost use Rattle.std.specs.Prelude.{◌≡◌, ◌≢◌, ◌+◌, ◌^◌, ◌<◌, ◌≤◌, ◌↔◌, ◌⊎◌, [], ◌∷◌, ◌++◌, IsTrue, IfOk, Contains, length};
 ghost use Rattle.group_model.specs.Sets.{Id, In, IsBelow, IsAscending};
-ghost use Rattle.group_model.specs.Messages.{Add, Message, IsHistory, IsHead, AreHeads, Stands, past as past_of, with_past as with_past_of};
-ghost use Rattle.group_model.specs.Membership.{Names, Removes, Named, Removed, IsSeeded, InView, IsRecipient, IsForwardedTo, ids_named, named_by, joined as joined_ids, remove_wins};
-ghost use Rattle.group_model.specs.Validity.{IsOperation, Answers, StepsRatchet, IsNextInSequence, IsUnanswered, AnswersOne, AnswersNone, IsInTurn, HasStepped, MayAck, MayAddAck, MeetsKind, FollowsHeads, Opens, NeedsAnswer, IsWithinLimits, count_of as count_by};
-ghost use Rattle.group_model.specs.Plain.{kind_of, message_of, history_of, Forwards, HasAnswered, BringsInAfter, IsOlderThanMembership, SuitsAck, inviter_in, place};
+ghost use Rattle.group_model.specs.Messages.{Add, Ack, Message, IsHistory, IsHead, AreHeads, Stands, past as past_of, with_past as with_past_of};
+ghost use Rattle.group_model.specs.Membership.{Names, Removes, Named, Removed, IsSeeded, InView, IsRecipient, IsForwardedTo, IsHandedTo, IsAddressee, AreAddressees, ids_named, named_by, joined as joined_ids, remove_wins};
+ghost use Rattle.group_model.specs.Validity.{IsOperation, Answers, StepsRatchet, IsNextInSequence, IsUnanswered, AnswersOne, AnswersNone, IsInTurn, HasStepped, MayAck, MayAddAck, MeetsKind, FollowsHeads, Opens, NeedsAnswer, IsWithinLimits, SendsParts, count_of as count_by};
+ghost use Rattle.group_model.specs.Plain.{kind_of, message_of, history_of, Forwards, HasAnswered, BringsInAfter, IsOlderThanMembership, SuitsAck, IsAddedBy, inviter_in, place};
 
 use std::alloc::{AllocError, Global};
 use std::cmp::Ordering;
@@ -575,7 +575,7 @@ pub fn is_below(one: &[u8; 32], other: &[u8; 32]) -> bool
     }
 }
 
-/// Whether no predecessor of the messages is this message, one of them: whether it is a head of theirs.
+/// Whether the message, one of the list, is a head: none of the list has it among its predecessors.
 pub fn is_head(rows: &[Row], row: &Row) -> bool
     ensures { In (message_of row.now) (history_of rows.now)
         → (IsTrue result ↔ IsHead (history_of rows.now) (message_of row.now)) }
@@ -674,7 +674,7 @@ pub fn named_ids(alloc: Global, rows: &[Row]) -> Result<Vec<[u8; 32]>, AllocErro
     Ok(ids)
 }
 
-/// Whether a message of the sender steps its ratchet.
+/// Whether the message is the sender's and steps its ratchet.
 fn is_own_step(row: &Row, sender: &[u8; 32]) -> bool
     ensures { IsTrue result ↔ ((row.now.sender ≡ sender.now) × StepsRatchet (kind_of row.now.kind)) }
 {
@@ -833,6 +833,122 @@ pub fn meets_kind(
         Act::Add(target) => may_add(alloc, cards, past, sender, target),
         Act::Text => Ok(has_stepped(past, sender)),
     }
+}
+
+/// Whether the message has the id `of` and adds the id.
+fn is_add_of(row: &Row, of: &[u8; 32], id: &[u8; 32]) -> bool
+    ensures { IsTrue result ↔ ((row.now.id ≡ of.now) × (kind_of row.now.kind ≡ Add id.now)) }
+{
+    same(&row.id, of) && adds(&row.kind, id)
+}
+
+/// Whether a message of the list has the id `of` and adds the id.
+fn is_added_by(rows: &[Row], of: &[u8; 32], id: &[u8; 32]) -> bool
+    ensures { IsTrue result ↔ IsAddedBy (history_of rows.now) of.now id.now }
+{
+    for row in rows {
+        if is_add_of(row, of, id) {
+            return true;
+        }
+    }
+    false
+}
+
+/// Whether the add-ack `add_ack` of the add with the id `of` hands its sender's ratchet to `id`.
+pub fn is_handed_to(
+    alloc: Global,
+    rows: &[Row],
+    of: &[u8; 32],
+    add_ack: &Row,
+    id: &[u8; 32],
+) -> Result<bool, AllocError>
+    ensures { IfOk result (λ b. IsTrue b ↔ IsHandedTo remove_wins (history_of rows.now) of.now (message_of add_ack.now) id.now) }
+{
+    if !is_added_by(rows, of, id) {
+        return Ok(false);
+    }
+    sees(alloc, rows, add_ack, id)
+}
+
+/// Whether the ack `ack`, with this `took`, of the operation with the id `of` has a part for the id.
+fn is_taken_to(
+    alloc: Global,
+    rows: &[Row],
+    of: &[u8; 32],
+    took: bool,
+    ack: &Row,
+    id: &[u8; 32],
+) -> Result<bool, AllocError>
+    ensures { IfOk result (λ b. IsTrue b
+        ↔ IsAddressee remove_wins (history_of rows.now) (message_of ack.now) (Ack of.now took) id.now) }
+{
+    if took {
+        return is_forwarded_to(alloc, rows, of, ack, id);
+    }
+    Ok(false)
+}
+
+/// Whether the message has a part for the id.
+pub fn is_addressee(
+    alloc: Global,
+    rows: &[Row],
+    row: &Row,
+    id: &[u8; 32],
+) -> Result<bool, AllocError>
+    ensures { IfOk result (λ b. IsTrue b
+        ↔ IsAddressee remove_wins (history_of rows.now) (message_of row.now) (kind_of row.now.kind) id.now) }
+{
+    match &row.kind {
+        Act::Create(_) => is_recipient(alloc, rows, row, id),
+        Act::Update => is_recipient(alloc, rows, row, id),
+        Act::Remove(_) => is_recipient(alloc, rows, row, id),
+        Act::Add(target) => Ok(same(target, id)),
+        Act::Ack(of, took) => is_taken_to(alloc, rows, of, *took, row, id),
+        Act::AddAck(of) => is_handed_to(alloc, rows, of, row, id),
+        Act::Text => Ok(false),
+    }
+}
+
+/// The ids that the message, one of the list, has parts for, in ascending order.
+pub fn addressees(alloc: Global, rows: &[Row], row: &Row) -> Result<Vec<[u8; 32]>, AllocError>
+    ensures { In (message_of row.now) (history_of rows.now)
+        → IfOk result (λ ids. AreAddressees remove_wins (history_of rows.now) (message_of row.now) ids.items) }
+{
+    let named = named_ids(alloc, rows)?;
+    let candidates = named.as_slice();
+    let mut ids = Vec::new(alloc);
+    for id in candidates {
+        let due = is_addressee(alloc, rows, row, id)?;
+        if due {
+            ids = with_id(ids, id)?;
+        }
+    }
+    Ok(ids)
+}
+
+/// The messages with one more before them.
+fn with_message(alloc: Global, rows: &[Row], row: &Row) -> Result<Vec<Row>, AllocError>
+    ensures { IfOk result (λ all. history_of all.items ≡ message_of row.now ∷ history_of rows.now) }
+{
+    let mut all = with_row(alloc, Vec::new(alloc), row)?;
+    for other in rows {
+        all = with_row(alloc, all, other)?;
+    }
+    Ok(all)
+}
+
+/// The fourth rule of validity, as the body of the next message tells: its parts go to exactly these ids, in their order.
+pub fn sends_parts(
+    alloc: Global,
+    rows: &[Row],
+    row: &Row,
+    ids: &[[u8; 32]],
+) -> Result<bool, AllocError>
+    ensures { IfOk result (λ b. IsTrue b ↔ SendsParts remove_wins (history_of rows.now) (message_of row.now) ids.now) }
+{
+    let all = with_message(alloc, rows, row)?;
+    let due = addressees(alloc, all.as_slice(), row)?;
+    Ok(due.as_slice() == ids)
 }
 
 /// Whether the id is the sender's, or the sender its inviter.
@@ -1122,6 +1238,47 @@ mod tests {
             assert!(rt; meets_kind(alloc, c, p, &id(*sender), kind)? == *expected);
         }
         assert!(rt; named_ids(alloc, p)?.as_slice() == [id(4), id(1), id(2), id(3)].as_slice());
+        Ok(())
+    }
+
+    #[test]
+    fn parts(rt: HostRuntime) -> Result<(), Fail> {
+        let alloc = rt.alloc();
+        let rows = history(alloc)?;
+        assert!(rt; rows.len() == 8);
+        let h = rows.as_slice();
+        // (the message by its place, the ids that it has parts for): an add after a remove, a remove of 3, an ack that
+        // forwards, an add of 4, an update beside it, two acks of the create, and the create.
+        let table = [
+            (0, [3].as_slice()),
+            (1, [2, 4].as_slice()),
+            (2, [4].as_slice()),
+            (3, [4].as_slice()),
+            (4, [2, 3].as_slice()),
+            (5, [].as_slice()),
+            (6, [].as_slice()),
+            (7, [2, 3].as_slice()),
+        ];
+        for (at, expected) in table {
+            let mut ids = Vec::new(alloc);
+            for n in expected {
+                ids.push(id(*n))?;
+            }
+            if at < 8 {
+                assert!(rt; addressees(alloc, h, &h[at])?.as_slice() == ids.as_slice());
+                assert!(rt; sends_parts(alloc, &h[at + 1..], &h[at], ids.as_slice())?);
+                ids.push(id(9))?;
+                assert!(rt; !sends_parts(alloc, &h[at + 1..], &h[at], ids.as_slice())?);
+            }
+        }
+        // An add-ack of 1 hands its ratchet to 4; an ack without the secret has no part.
+        let handed = row(alloc, 18, 1, Act::AddAck(id(14)), &[13, 14])?;
+        assert!(rt; is_handed_to(alloc, h, &id(14), &handed, &id(4))?);
+        assert!(rt; !is_handed_to(alloc, h, &id(14), &handed, &id(3))?);
+        assert!(rt; sends_parts(alloc, h, &handed, [id(4)].as_slice())?);
+        let bare = row(alloc, 18, 3, Act::Ack(id(13), false), &[13, 14])?;
+        assert!(rt; sends_parts(alloc, h, &bare, [].as_slice())?);
+        assert!(rt; !sends_parts(alloc, h, &bare, [id(4)].as_slice())?);
         Ok(())
     }
 
