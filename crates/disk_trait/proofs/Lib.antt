@@ -2,3 +2,4 @@ pub mod Crash
 pub mod Inverts
 pub mod Moments
 pub mod Overlays
+pub mod StreamLemmas

@@ -9,7 +9,7 @@ use Rattle.disk_trait.specs.Images.{content_image}
 use Rattle.disk_trait.proofs.Overlays.{replayed-push}
 
 module _ (first first' : List ℕ) (changes changes' : List Change) (change : Change) (same : first' ≡ first) (grown : changes' ≡ changes ++ change ∷ []) where
-  standing : replayed (fresh first') changes' ≡ after (replayed (fresh first) changes) change
+  pub standing : replayed (fresh first') changes' ≡ after (replayed (fresh first) changes) change
   standing =
       ap (λ (bytes : List ℕ). replayed (fresh bytes) changes') same ∙ ap (replayed (fresh first)) grown ∙ replayed-push changes change (fresh first)
 

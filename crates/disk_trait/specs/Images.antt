@@ -3,7 +3,7 @@ use Rattle.std.proofs.Common.{◌≡◌, ℕ, ◌+◌, ◌-◌, ◌≤◌, min, 
 use Rattle.std.proofs.lemmas.List.{length-take, length-replicate, take-append-le, take-take, take_min, take_all, take_at, drop_at}
 use Rattle.disk_trait.specs.declared.memory.Change.{Change}
 use Rattle.disk_trait.specs.Disk.{Wrote}
-use Rattle.disk_trait.specs.Replay.{overwritten, overlaid, fresh, replayed, content_of, IsTornFrom, IsImage, IsImageSince, SameFate}
+use Rattle.disk_trait.specs.Replay.{overwritten, overlaid, fresh, replayed, content_of, IsTornFrom, IsImage, IsImageSince}
 
 -- three parts one behind the other, of which the first ends at a place
 placed_wrote : (at : ℕ) (front part old : List ℕ) → length front ≡ at → take (min at (length old)) front ≡ take at old
@@ -54,10 +54,3 @@ pub only_image_now : (first : List ℕ) (changes : List Change) (c : List ℕ) �
     → IsImage (replayed (fresh first) changes) c
 only_image_now first changes c since =
     subst (λ (cs : List Change). IsImage (replayed (fresh first) cs) c) (take_all since.0 changes since.1) since.3
-
-pub same_fate : (failing : List ℕ) (faults : ℕ) → SameFate failing failing faults faults
-same_fate failing faults = record { same = refl; honest = λ none. refl }
-
-pub same_fate_on : (a b c : List ℕ) (x y z : ℕ) → SameFate a b x y → SameFate b c y z → SameFate a c x z
-same_fate_on a b c x y z first second =
-    record { same = second.same ∙ first.same; honest = λ none. second.honest (first.same ∙ none) ∙ first.honest none }

@@ -1,8 +1,9 @@
 -- What a disk in memory shows of itself.
-use Rattle.std.specs.Prelude.{ℕ, List}
+use Rattle.std.specs.Prelude.{ℕ, List, length}
 use Rattle.disk_trait.specs.declared.memory.MemDisk.{MemDisk}
 use Rattle.group_fields.specs.declared.counts.Counts.{Counts}
-use Rattle.disk_trait.specs.Replay.{Standing, fresh, replayed}
+use Rattle.group_fields.specs.Plan.{KeepsPlan}
+use Rattle.disk_trait.specs.Replay.{Standing, fresh, replayed, IsImageSince}
 
 -- what a read gives
 abbrev pub content : MemDisk → List ℕ
@@ -23,3 +24,15 @@ calls disk = disk.asked
 -- how often it has failed, and wanted memory
 abbrev pub counted : MemDisk → Counts
 counted disk = disk.counts
+
+-- how many changes it went through
+abbrev pub moments : MemDisk → ℕ
+moments disk = length disk.changes.items
+
+-- what a crash after at least so many changes might have left
+abbrev pub images_since : MemDisk → ℕ → List ℕ → Type 0
+images_since disk = IsImageSince disk.first.items disk.changes.items
+
+-- the same calls are to fail, and where there are none, none has failed
+abbrev pub Follows : MemDisk → MemDisk → Type 0
+Follows before now = KeepsPlan (failing_calls before) (failing_calls now) (counted before) (counted now)

@@ -22,9 +22,13 @@ abbrev pub overlaid : List ℕ → List (ℕ × List ℕ) → List ℕ
 overlaid settled [] = settled
 overlaid settled (write ∷ writes) = overwritten write.0 write.1 (overlaid settled writes)
 
-abbrev pub after : Standing → Change → Standing
-after standing (Write at bytes) =
+-- one pending write more
+abbrev pub written_over : ℕ → List ℕ → Standing → Standing
+written_over at bytes standing =
     record { settled = standing.settled; pending = (at, bytes) ∷ standing.pending }
+
+abbrev pub after : Standing → Change → Standing
+after standing (Write at bytes) = written_over at bytes standing
 after standing Sync = fresh (overlaid standing.settled standing.pending)
 
 -- how a disk stands after these changes, the oldest first
@@ -61,11 +65,6 @@ abbrev pub crash_image : ℕ → Standing → List ℕ
 crash_image zero standing = standing.settled
 crash_image (suc zero) standing = overlaid standing.settled standing.pending
 crash_image (suc (suc n)) standing = overlaid standing.settled (inverted_writes standing.pending)
-
--- Calls lead from one disk to another: the same calls are to fail, and where there are none, none has failed.
-pub record SameFate (failing failing' : List ℕ) (faults faults' : ℕ) : Type 0 where
-  pub same : failing' ≡ failing
-  pub honest : failing ≡ [] → faults' ≡ faults
 
 -- bytes after these changes, the oldest first
 abbrev pub overlay : List ℕ → List Change → List ℕ

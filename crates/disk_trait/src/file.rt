@@ -3,11 +3,12 @@ ghost use Rattle.group_fields.specs.Cause.{HasCause};
 ghost use Rattle.disk_trait.specs.File.{CountsAs};
 ghost use Rattle.disk_trait.specs.declared.disk.DiskError.TheVariants.{Failed, Memory};
 
+use crate::streams::{read_full, write_full};
 use crate::{Disk, DiskError};
 use group_fields::{Counts, Text};
 use std::fs::{OpenFile, OpenOptions};
 use std::io;
-use std::io::{ErrorKind, Read, Seek, SeekFrom, Write};
+use std::io::{ErrorKind, Seek, SeekFrom};
 use std::rt::Files;
 
 /// The disk over a real file. It tells nothing of its content, since no contract can say what a file gives.
@@ -22,8 +23,12 @@ pub struct FileDisk<R: Files> {
 }
 
 impl<R: Files> FileDisk<R> {
+    ghost use Rattle.disk_trait.specs.FileDisk.{counts_of};
+
     /// A disk over the file at a path. It touches nothing.
-    pub fn new(rt: R, path: Text) -> FileDisk<R> {
+    pub fn new(rt: R, path: Text) -> FileDisk<R>
+        ensures { counts_of result ≡ Counts.NONE }
+    {
         FileDisk {
             rt,
             path,
@@ -145,34 +150,6 @@ pub(crate) fn folder_of(path: &str) -> &str {
         Some(("", _)) => "/",
         Some((folder, _)) => folder,
     }
-}
-
-/// Reads until the buffer is full or the file ends.
-fn read_full<F: Read>(file: &mut F, into: &mut [u8]) -> io::Result<usize>
-    ensures { IfOk result (λ count. count ≤ length into.old) }
-{
-    let mut filled = 0;
-    while filled < into.len() {
-        let count = file.read(&mut into[filled..])?;
-        if count == 0 {
-            break;
-        }
-        filled += count;
-    }
-    Ok(filled)
-}
-
-/// Writes until all bytes are written.
-fn write_full<F: Write>(file: &mut F, bytes: &[u8]) -> io::Result<()> {
-    let mut written = 0;
-    while written < bytes.len() {
-        let count = file.write(&bytes[written..])?;
-        if count == 0 {
-            return Err(io::Error::from(ErrorKind::WriteZero));
-        }
-        written += count;
-    }
-    Ok(())
 }
 
 impl<R: Files> Disk for FileDisk<R> {

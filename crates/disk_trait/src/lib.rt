@@ -5,6 +5,7 @@
 mod disk;
 mod file;
 mod memory;
+mod streams;
 #[cfg(test)]
 mod tests;
 

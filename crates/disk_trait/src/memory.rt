@@ -1,11 +1,12 @@
-ghost use Rattle.std.specs.Prelude.{◌≡◌, ◌+◌, ◌-◌, ◌==◌, ◌≤◌, ◌<◌, ◌^◌, min, max, is_ok, not, IfErr, ℕ, List, [], ◌∷◌, ◌++◌, length, take, drop, map, IfOk, OnOk, OnErr, IsOk, vec_len, vec_capacity, cond, if◌then◌else◌};
-ghost use Rattle.std.specs.List.{list_any};
+ghost use Rattle.std.specs.Prelude.{◌≡◌, ◌+◌, ◌-◌, ◌≤◌, ◌<◌, ◌^◌, ◌↔◌, min, max, Contains, IsTrue, IfErr, ℕ, List, [], ◌∷◌, ◌++◌, length, take, drop, map, IfOk, OnOk, OnErr, IsOk, vec_len, vec_capacity, cond, if◌then◌else◌};
+ghost use Rattle.group_fields.specs.Cause.{HasCause};
 ghost use Rattle.group_fields.specs.Counts.{greatest_count, IsRaised};
-ghost use Rattle.disk_trait.specs.Disk.{LeavesOnly, ReadsPart};
-ghost use Rattle.disk_trait.specs.Images.{content_image, image_now, only_image_now, same_fate, same_fate_on};
-ghost use Rattle.disk_trait.specs.declared.disk.DiskError.TheVariants.{Failed};
+ghost use Rattle.group_fields.specs.Plan.{FailsAsPlanned};
+ghost use Rattle.disk_trait.specs.Disk.{LeavesOnly, MayNot, MayTear, Passes, ReadsPart, Wrote};
+ghost use Rattle.disk_trait.specs.Images.{content_image, image_now, only_image_now};
+ghost use Rattle.disk_trait.specs.declared.disk.DiskError.TheVariants.{Failed, Memory};
 ghost use Rattle.disk_trait.specs.declared.memory.Change.TheVariants.{Write, Sync};
-ghost use Rattle.disk_trait.specs.Replay.{overwritten, overlay, overlay_inverted, inverted, AllWrites, Settles, fresh, replayed, content_of, IsImage, IsImageSince, SameFate, crash_image};
+ghost use Rattle.disk_trait.specs.Replay.{overwritten, overlay, overlay_inverted, inverted, AllWrites, Settles, fresh, written_over, replayed, content_of, IsImage, crash_image};
 
 use crate::{Disk, DiskError};
 use group_fields::{Bytes, Counts, Memory};
@@ -20,9 +21,9 @@ pub(crate) enum Change {
 
 /// Whether a call is one of those that are to fail.
 fn is_due(failing: &[u32], call: u64) -> bool
-    ensures { result ≡ list_any (λ number. number == call) failing.now }
+    ensures { IsTrue result ↔ Contains failing.now call }
 {
-    failing.iter().any(|number| u64::from(*number) == call)
+    failing.iter().any(|&number| u64::from(number) == call)
 }
 
 /// Copies bytes with each of them inverted.
@@ -176,7 +177,7 @@ impl MemDisk {
     fn begin(&mut self) -> Result<(), DiskError>
         ensures ok { OnOk result (self.new ≡ record self.old { asked = min (self.old.asked + 1) greatest_count }) }
         ensures err { OnErr result ((IsRaised self.old.counts.faults self.new.counts.faults) × (self.new ≡ record self.old { asked = min (self.old.asked + 1) greatest_count; counts = record { faults = self.new.counts.faults; wants = self.old.counts.wants } })) }
-        ensures due { is_ok result ≡ not (list_any (λ number. number == min (self.old.asked + 1) greatest_count) self.old.failing.items) }
+        ensures planned { FailsAsPlanned Failed self.old.failing.items self.old.asked self.new.asked result }
         ensures failed { IfErr result (λ error. error ≡ Failed) }
     {
         self.asked = self.asked.saturating_add(1);
@@ -273,19 +274,22 @@ fn grow(target: &mut Vec<u8>, length: usize) -> Result<(), Memory>
 }
 
 impl Disk for MemDisk {
+    ghost use Rattle.disk_trait.specs.MemDisk.{content, standing, failing_calls, calls, counted, moments, images_since, Follows};
+    ghost use Rattle.group_fields.specs.Plan.{keeps-itself, keeps-on};
+
     ghost told = { Unit {0} };
 
-    ghost content = { λ disk. disk.bytes.items };
+    ghost content = { content };
 
-    ghost image = { λ disk. IsImage (replayed (fresh disk.first.items) disk.changes.items) };
+    ghost image = { λ disk. IsImage (standing disk) };
 
-    ghost clock = { λ disk. length disk.changes.items };
+    ghost clock = { moments };
 
-    ghost image_since = { λ disk. IsImageSince disk.first.items disk.changes.items };
+    ghost image_since = { images_since };
 
-    ghost counts = { λ disk. disk.counts };
+    ghost counts = { counted };
 
-    ghost follows = { λ disk later. SameFate disk.failing.items later.failing.items disk.counts.faults later.counts.faults };
+    ghost follows = { Follows };
 
     ghost content_is_image = { λ disk told. content_image disk.first.items disk.bytes.items disk.changes.items disk.shows };
 
@@ -293,21 +297,51 @@ impl Disk for MemDisk {
 
     ghost only_now = { λ disk c told since. only_image_now disk.first.items disk.changes.items c since };
 
-    ghost follows_itself = { λ disk. same_fate disk.failing.items disk.counts.faults };
+    ghost follows_itself = { λ disk. keeps-itself _ _ };
 
-    ghost follows_on = { λ first second third early late. same_fate_on first.failing.items second.failing.items third.failing.items first.counts.faults second.counts.faults third.counts.faults early late };
+    ghost follows_on = { λ first second third early late. keeps-on _ _ _ _ _ _ early late };
 
-    fn len(&mut self) -> Result<u64, DiskError> {
+    fn len(&mut self) -> Result<u64, DiskError>
+        ensures length { IfOk result (λ n. n ≡ length (content self.old)) }
+        ensures content { content self.new ≡ content self.old }
+        ensures standing { standing self.new ≡ standing self.old }
+        ensures crash { MayNot (IsImage (standing self.old)) (IsImage (standing self.new)) }
+        ensures time { Passes (moments self.old) (moments self.new) (images_since self.old) (images_since self.new) (IsImage (standing self.new)) }
+        ensures planned { FailsAsPlanned Failed (failing_calls self.old) (calls self.old) (calls self.new) result }
+        ensures cause { HasCause Failed Memory (counted self.old) (counted self.new) result }
+        ensures follows { Follows self.old self.new }
+    {
         self.begin()?;
         Ok(self.bytes.len() as u64)
     }
 
-    fn read(&mut self, at: u64, into: &mut [u8]) -> Result<usize, DiskError> {
+    fn read(&mut self, at: u64, into: &mut [u8]) -> Result<usize, DiskError>
+        ensures within { IfOk result (λ n. n ≤ length into.old) }
+        ensures bytes { IfOk result (λ n. ReadsPart (content self.old) at n into.old into.new) }
+        ensures content { content self.new ≡ content self.old }
+        ensures standing { standing self.new ≡ standing self.old }
+        ensures crash { MayNot (IsImage (standing self.old)) (IsImage (standing self.new)) }
+        ensures time { Passes (moments self.old) (moments self.new) (images_since self.old) (images_since self.new) (IsImage (standing self.new)) }
+        ensures planned { FailsAsPlanned Failed (failing_calls self.old) (calls self.old) (calls self.new) result }
+        ensures cause { HasCause Failed Memory (counted self.old) (counted self.new) result }
+        ensures follows { Follows self.old self.new }
+    {
         self.begin()?;
         Ok(copy_part(&self.bytes, at, into))
     }
 
-    fn write_at(&mut self, at: u64, bytes: &[u8]) -> Result<(), DiskError> {
+    /// Where it fails, nothing is written and nothing more is pending.
+    fn write_at(&mut self, at: u64, bytes: &[u8]) -> Result<(), DiskError>
+        ensures written { OnOk result (Wrote at bytes.now (content self.old) (content self.new)) }
+        ensures pending { OnOk result (standing self.new ≡ written_over at bytes.now (standing self.old)) }
+        ensures unwritten { OnErr result (content self.new ≡ content self.old) }
+        ensures unchanged { OnErr result (standing self.new ≡ standing self.old) }
+        ensures crash { MayTear at (length bytes.now) (IsImage (standing self.old)) (IsImage (standing self.new)) }
+        ensures time { Passes (moments self.old) (moments self.new) (images_since self.old) (images_since self.new) (IsImage (standing self.new)) }
+        ensures planned { FailsAsPlanned Failed (failing_calls self.old) (calls self.old) (calls self.new) result }
+        ensures cause { HasCause Failed Memory (counted self.old) (counted self.new) result }
+        ensures follows { Follows self.old self.new }
+    {
         self.begin()?;
         match self.put(at, bytes) {
             Ok(()) => Ok(()),
@@ -318,7 +352,18 @@ impl Disk for MemDisk {
         }
     }
 
-    fn sync(&mut self) -> Result<(), DiskError> {
+    /// Where it fails, all that was pending still is.
+    fn sync(&mut self) -> Result<(), DiskError>
+        ensures durable { OnOk result (LeavesOnly (content self.old) (IsImage (standing self.new))) }
+        ensures settled { OnOk result (standing self.new ≡ fresh (content self.old)) }
+        ensures unsettled { OnErr result (standing self.new ≡ standing self.old) }
+        ensures content { content self.new ≡ content self.old }
+        ensures crash { MayNot (IsImage (standing self.old)) (IsImage (standing self.new)) }
+        ensures time { Passes (moments self.old) (moments self.new) (images_since self.old) (images_since self.new) (IsImage (standing self.new)) }
+        ensures planned { FailsAsPlanned Failed (failing_calls self.old) (calls self.old) (calls self.new) result }
+        ensures cause { HasCause Failed Memory (counted self.old) (counted self.new) result }
+        ensures follows { Follows self.old self.new }
+    {
         self.begin()?;
         match self.settle() {
             Ok(()) => Ok(()),

@@ -1,8 +1,10 @@
 use super::*;
 use crate::file::folder_of;
+use crate::streams::{read_full, write_full};
 use group_fields::Text;
 use std::alloc::Global;
 use std::fs;
+use std::io::Read;
 use std::process::Abort;
 use std::test::Fail;
 
@@ -106,6 +108,27 @@ fn planned_calls_of_a_disk_fail(rt: HostRuntime) -> Result<(), Fail> {
         disk.crash(0);
         assert_eq!(rt; disk.bytes(), settled.as_bytes(), "plan {number}");
     }
+    Ok(())
+}
+
+#[test]
+fn streams_go_on_after_short_calls(rt: HostRuntime) -> Result<(), Fail> {
+    for (room, count, want) in [(0, 0, "......."), (4, 4, "abcd..."), (7, 5, "abcde..")] {
+        let mut parts = b"ab".as_slice().chain(b"cde".as_slice());
+        let mut into = [b'.'; 7];
+        assert_eq!(rt; read_full(&mut parts, &mut into[..room])?, count);
+        assert_eq!(rt; into.as_slice(), want.as_bytes(), "room for {room}");
+    }
+    let mut written = Vec::new(rt.alloc());
+    write_full(&mut written, b"abcde")?;
+    assert_eq!(rt; written.as_slice(), b"abcde".as_slice());
+    // a slice takes as many bytes as it has room for, and then none
+    let mut room = [0; 3];
+    assert_eq!(rt;
+        write_full(&mut room.as_mut_slice(), b"abcde").is_err(),
+        true
+    );
+    assert_eq!(rt; room, *b"abc");
     Ok(())
 }
 

@@ -1,3 +1,7 @@
-pub mod Counts
-pub mod Reading
+pub mod Cards
 pub mod Cause
+pub mod Counts
+pub mod Fields
+pub mod Plan
+pub mod Reading
+pub mod Reads

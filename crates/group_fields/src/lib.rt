@@ -3,16 +3,25 @@
 #![tactic(auto)]
 
 mod bytes;
+mod card;
+mod card_view;
+mod cards;
 mod counts;
 mod cursor;
+mod fault;
+mod fields;
 mod ids;
 #[cfg(test)]
 mod tests;
 mod text;
 
 pub use bytes::Bytes;
+pub use card::{Card, cards_are_spelled_once, write_card};
+pub use card_view::{CardView, read_card};
+pub use cards::Cards;
 pub use counts::Counts;
 pub use cursor::Cursor;
+pub use fault::FieldFault;
 pub use ids::{Digest, GroupId, MemberId, MessageId};
 use std::alloc::AllocError;
 pub use text::Text;

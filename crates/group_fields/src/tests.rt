@@ -1,3 +1,5 @@
+mod cards;
+
 use super::*;
 use std::test::Fail;
 

@@ -13,6 +13,15 @@ pub mod Moves
 pub mod Queues
 pub mod Chains
 pub mod Theorem
+pub mod Ascending
 pub mod Rows
 pub mod Settled
 pub mod Conduct
+pub mod Says
+pub mod Verdicts
+pub mod Judged
+pub mod Quick
+pub mod Play
+pub mod Toy
+pub mod Members
+pub mod Outsider

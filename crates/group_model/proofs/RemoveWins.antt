@@ -39,7 +39,7 @@ joined-either (y ∷ ids) others {x} i = elim (test (has (joined ids others) y))
     later (inl k) = inl (there k)
     later (inr k) = inr k
 
-Names-In : (k : Kind) (x : Id) → Names k x → In x (named_by k)
+pub Names-In : (k : Kind) (x : Id) → Names k x → In x (named_by k)
 Names-In (Create members) x n = n
 Names-In Update x n = absurd n
 Names-In (Remove y) x n = absurd n
@@ -48,7 +48,7 @@ Names-In (Ack o took) x n = absurd n
 Names-In (AddAck o) x n = absurd n
 Names-In Text x n = absurd n
 
-In-Names : (k : Kind) (x : Id) → In x (named_by k) → Names k x
+pub In-Names : (k : Kind) (x : Id) → In x (named_by k) → Names k x
 In-Names (Create members) x n = n
 In-Names Update x n = elim n [ ]
 In-Names (Remove y) x n = elim n [ ]

@@ -1,10 +1,10 @@
 -- Rows of the plain program, and the messages that they stand for.
-use Rattle.std.proofs.Common.{Bool, IsTrue, Result, Ok, Err, IfOk, ◌≡◌, ◌≢◌, ℕ, zero, suc, ◌+◌, ◌<◌, ◌≤◌, false, ◌⊎◌, inl, inr, List, [], ◌∷◌, ◌++◌, refl, sym, ◌∙◌, subst, ap, take, drop, length, get_or, arith, append_assoc, add-one, drop-cons}
+use Rattle.std.proofs.Common.{Bool, IsTrue, Result, Ok, Err, IfOk, ◌≡◌, ◌≢◌, ℕ, zero, suc, ◌+◌, ◌-◌, ◌<◌, ◌≤◌, false, cond, ◌⊎◌, inl, inr, List, [], ◌∷◌, ◌++◌, refl, sym, ◌∙◌, subst, ap, take, drop, length, get_or, arith, append_assoc, add-one, drop-cons}
 use Rattle.std.specs.declared.alloc.AllocError.{AllocError}
 use Rattle.std.proofs.lemmas.List.{take_more, take_all}
 use Rattle.group_model.specs.Sets.{Id, In, here, there, has}
 use Rattle.group_model.specs.Messages.{Message, History, past, Stands, IsHistory}
-use Rattle.group_model.specs.Membership.{Names, Removes, Named, Removed}
+use Rattle.group_model.specs.Membership.{Names, Removes, Named, Removed, named_by, joined, ids_named}
 use Rattle.group_model.specs.Validity.{IsOperation, IsUnanswered, AnswersOne}
 use Rattle.group_model.specs.Plain.{kind_of, message_of, history_of, HasAnswered, IsOlderThanMembership}
 use Rattle.group_model.specs.declared.plain.Row.{Row}
@@ -170,3 +170,87 @@ pub answers_one-where : (h : History) (s i : Id) (o : Message) → IsUnanswered 
 answers_one-where h s i o u e (Ok b) k =
     (λ t. record { operation = o; waits = u; has_id = e; only = k.0 t }, λ one. k.1 (λ a w. one.only a w))
 answers_one-where h s i o u e (Err x) k = tt
+
+-- what is left of a list from one element before on
+pub drop-before : {A : Type 0} (xs : List A) (at : ℕ) (d : A) → 0 < at → at ≤ length xs → drop (at - 1) xs ≡ get_or xs (at - 1) d ∷ drop at xs
+drop-before xs at d p l =
+    let e : suc (at - 1) ≡ at = omega arith in
+    drop-cons xs (at - 1) d (omega arith) ∙ ap (λ n. get_or xs (at - 1) d ∷ drop n xs) e
+
+-- an id of the list
+pub id-in : (ids : List Id) (n : ℕ) (d : Id) → n < length ids → In (get_or ids n d) ids
+id-in [] n d l = absurd (omega arith)
+id-in (j ∷ ids) zero d l = here
+id-in (j ∷ ids) (suc n) d l = there (id-in ids n d (omega arith))
+
+-- one more id
+pub id-more : (ids : List Id) (n : ℕ) (d : Id) → n < length ids → (x : Id) → In x (take (n + 1) ids) → (x ≡ get_or ids n d) ⊎ In x (take n ids)
+id-more ids n d l x j = elim (In-either (take n ids) (subst (λ z. In x z) (take_more ids n d l) j)) [
+  | inl k ↦ inr k
+  | inr k ↦ elim (In-cases k) [
+    | inl e ↦ inl e
+    | inr q ↦ absurd (In-nothing q)
+  ]
+]
+
+-- those of the ids so far that are wanted, where the next is wanted and where it is not
+pub kept-more : (P : Id → Type 0) (named : List Id) (n : ℕ) (d : Id) (ids wider : List Id) → n < length named
+    → ((y : Id) → In y (take n named) → P y → In y ids)
+    → ((x : Id) → (In x wider → (x ≡ get_or named n d) ⊎ In x ids) × ((x ≡ get_or named n d) ⊎ In x ids → In x wider))
+    → (y : Id) → In y (take (n + 1) named) → P y → In y wider
+kept-more P named n d ids wider l before same y j p = elim (id-more named n d l y j) [
+  | inl e ↦ (same y).1 (inl e)
+  | inr k ↦ (same y).1 (inr (before y k p))
+]
+
+pub kept-only : (P : Id → Type 0) (i : Id) (ids wider : List Id) → P i → ((y : Id) → In y ids → P y)
+    → ((x : Id) → (In x wider → (x ≡ i) ⊎ In x ids) × ((x ≡ i) ⊎ In x ids → In x wider)) → (y : Id) → In y wider → P y
+kept-only P i ids wider hit before same y j = elim ((same y).0 j) [
+  | inl e ↦ subst P (sym e) hit
+  | inr k ↦ before y k
+]
+
+pub kept-left : (P : Id → Type 0) (named : List Id) (n : ℕ) (d : Id) (ids : List Id) → n < length named
+    → ((y : Id) → In y (take n named) → P y → In y ids) → (P (get_or named n d) → ⊥)
+    → (y : Id) → In y (take (n + 1) named) → P y → In y ids
+kept-left P named n d ids l before miss y j p = elim (id-more named n d l y j) [
+  | inl e ↦ absurd (miss (subst P e p))
+  | inr k ↦ before y k p
+]
+
+-- all of the ids so far
+pub all-more_ids : (P : Id → Type 0) (ids : List Id) (n : ℕ) (d : Id) → n < length ids
+    → ((x : Id) → In x (take n ids) → P x) → P (get_or ids n d) → (x : Id) → In x (take (n + 1) ids) → P x
+all-more_ids P ids n d l before hit x j = elim (id-more ids n d l x j) [
+  | inl e ↦ subst P (sym e) hit
+  | inr k ↦ before x k
+]
+
+-- at the end the ids so far are all
+pub ids-end : (ids : List Id) (n : ℕ) → length ids ≤ n → {x : Id} → In x ids → In x (take n ids)
+ids-end ids n l {x} k = subst (λ z. In x z) (sym (take_all n ids l)) k
+
+-- ids joined, from the last of the first on
+pub joined-has : (first others : List Id) (at : ℕ) (d : Id) (ids : List Id) → 0 < at → at ≤ length first
+    → ids ≡ joined (drop at first) others → In (get_or first (at - 1) d) ids → ids ≡ joined (drop (at - 1) first) others
+joined-has first others at d ids p l before k =
+    before ∙ sym (ap (λ z. joined z others) (drop-before first at d p l)
+    ∙ ap (λ b. cond b (joined (drop at first) others) (get_or first (at - 1) d ∷ joined (drop at first) others))
+    (In-has (joined (drop at first) others) (get_or first (at - 1) d) (subst (λ z. In (get_or first (at - 1) d) z) before k)))
+
+pub joined-new : (first others : List Id) (at : ℕ) (d : Id) (ids : List Id) → 0 < at → at ≤ length first
+    → ids ≡ joined (drop at first) others → (In (get_or first (at - 1) d) ids → ⊥)
+    → get_or first (at - 1) d ∷ ids ≡ joined (drop (at - 1) first) others
+joined-new first others at d ids p l before k =
+    ap (λ z. get_or first (at - 1) d ∷ z) before ∙ sym (ap (λ z. joined z others) (drop-before first at d p l)
+    ∙ ap (λ b. cond b (joined (drop at first) others) (get_or first (at - 1) d ∷ joined (drop at first) others))
+    (not_has (joined (drop at first) others) (get_or first (at - 1) d)
+    (λ q. k (subst (λ z. In (get_or first (at - 1) d) z) (sym before) q))))
+
+-- the ids that a history names, from its oldest message on
+pub named-more : (rows : List Row) (at : ℕ) (d : Row) (ids wider : List Id) → 0 < at → at ≤ length rows
+    → ids ≡ ids_named (history_of (drop at rows)) → wider ≡ joined (named_by (kind_of (get_or rows (at - 1) d).kind)) ids
+    → wider ≡ ids_named (history_of (drop (at - 1) rows))
+named-more rows at d ids wider p l before more =
+    more ∙ ap (λ z. joined (named_by (kind_of (get_or rows (at - 1) d).kind)) z) before
+    ∙ sym (ap (λ z. ids_named (history_of z)) (drop-before rows at d p l))

@@ -1,6 +1,6 @@
 -- Agreement: equal secrets, and authentic texts, as statements on worlds.
--- The DCGKA paper's correctness of key agreement (its section 5), for every history with an honest past;
--- docs/SPECIFICATION.md, "The group", "Agreement".
+-- The DCGKA paper's correctness of key agreement, for every history with an honest past;
+-- docs/PROMISES.md, "Agreement".
 use Rattle.std.specs.Prelude.{◌≡◌, ◌∷◌, Option, Some, option_map}
 use Rattle.group_model.specs.Sets.{Id, In}
 use Rattle.group_model.specs.Messages.{Text, Message, History, with_past}

@@ -1,6 +1,6 @@
 -- Key terms, the bytes that they stand for, and how a message moves its sender's ratchet.
--- The DCGKA paper's per-sender ratchet and update secrets (its section 6);
--- docs/SPECIFICATION.md, "The group", "Key terms".
+-- The DCGKA paper's ratchet of each sender and its update secrets; docs/SPECIFICATION.md, "The group", "Primitives and
+-- key terms".
 use Rattle.std.specs.Prelude.{true, false, [], Option, Some, None, option_map, replicate, codes}
 use Rattle.group_model.specs.Sets.{Bytes, Id}
 use Rattle.group_model.specs.Messages.{Kind, Create, Update, Remove, Add, Ack, AddAck, Text}

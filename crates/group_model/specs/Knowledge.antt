@@ -1,5 +1,5 @@
 -- What a member knows, by its log alone: of each sender's ratchet, of each update secret, of each text
--- chain, and of each text. The DCGKA paper's member state (its section 6), as what it stands for;
+-- chain, and of each text. The DCGKA paper's member state, as what it stands for;
 -- docs/SPECIFICATION.md, "The group", "Knowledge".
 use Rattle.std.specs.Prelude.{true, false, cond, List, [], ◌∷◌, Option, Some, None, bytes_eq, option_map}
 use Rattle.std.specs.Option.{option_and_then}

@@ -13,3 +13,4 @@ pub mod Worlds
 pub mod Agreement
 pub mod Plain
 pub mod Conduct
+pub mod Examples

@@ -1,6 +1,6 @@
 -- Who is a member, who sees a message, and where its parts go.
--- The DCGKA paper's decentralised group membership function (its section 5) and its `member_view`;
--- docs/SPECIFICATION.md, "The group", "Membership".
+-- The DCGKA paper's decentralised group membership function and its `member_view`; docs/SPECIFICATION.md,
+-- "The group", "Membership".
 use Rattle.std.specs.Prelude.{◌≡◌, ◌≢◌, true, false, cond, List, [], ◌∷◌}
 use Rattle.group_model.specs.Sets.{Id, In, has, Within, IsAscending}
 use Rattle.group_model.specs.Messages.{Kind, Create, Update, Remove, Add, Ack, AddAck, Text, Message, History, past, with_past, IsHistory}

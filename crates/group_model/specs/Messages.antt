@@ -1,6 +1,6 @@
 -- Messages, histories, pasts and heads.
--- The DCGKA paper's control messages in their causal order (its section 6); docs/SPECIFICATION.md,
--- "The group", "Messages and histories".
+-- The DCGKA paper's control messages in their causal order; docs/SPECIFICATION.md, "The group", "Messages and
+-- histories".
 use Rattle.std.specs.Prelude.{◌≡◌, ℕ, Bool, cond, List, [], ◌∷◌, ◌++◌}
 use Rattle.group_model.specs.Sets.{Id, In, has, IsAscending}
 

@@ -1,6 +1,6 @@
 -- Two-party messaging of a pair of members, by the list of what one of them sent to the other and
 -- opened from the other, newest first.
--- The DCGKA paper's two-party secure messaging, 2SM (its section 6);
+-- The DCGKA paper's two-party secure messaging, 2SM;
 -- docs/SPECIFICATION.md, "The group", "Two-party messaging".
 use Rattle.std.specs.Prelude.{◌≡◌, ℕ, ◌+◌, Bool, true, false, cond, List, [], ◌∷◌, ◌++◌, Option, Some, None, nat_lt, nat_eq, option_map, codes}
 use Rattle.std.specs.Option.{option_and_then}

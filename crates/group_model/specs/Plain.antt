@@ -1,9 +1,12 @@
--- The plain program's values as messages of the model.
-use Rattle.std.specs.Prelude.{◌≡◌, ◌≢◌, List, map}
+-- The plain program's values as messages of the model. docs/SPECIFICATION.md, "The group", "The plain program".
+use Rattle.std.specs.Prelude.{◌≡◌, ◌≢◌, ℕ, ◌+◌, Bool, true, cond, ◌⊎◌, List, [], ◌∷◌, map, replicate, bytes_eq}
+use Rattle.std.specs.Ordering.{nat_cmp, is_lt}
+use Rattle.std.specs.Cmp.Lexicographic.{slice_cmp}
 use Rattle.group_model.specs.Sets.{Id, In}
 use Rattle.group_model.specs.Messages.{Kind, Create, Update, Remove, Add, Ack, AddAck, Text, Message, History, Stands, past}
 use Rattle.group_model.specs.Membership.{IsSeeded, InView, IsRecipient, remove_wins}
 use Rattle.group_model.specs.Validity.{Answers}
+use Rattle.group_model.specs.declared.plain.Card.{Card}
 use Rattle.group_model.specs.declared.plain.Row.{Row}
 use Rattle.group_model.specs.declared.plain.Act.{Act}
 use Rattle.group_model.specs.declared.plain.Act.TheVariants as act
@@ -57,3 +60,25 @@ pub record IsOlderThanMembership (p : History) (s : Id) (i : Id) : Type 0 where
   pub by : Message
   pub there_is : In by p
   pub brings : BringsInAfter p by s i
+
+-- a message of the set has the id and adds y
+pub record IsAddedBy (h : History) (i : Id) (y : Id) : Type 0 where
+  pub operation : Message
+  pub there_is : In operation h
+  pub has_id : operation.id ≡ i
+  pub adds : operation.kind ≡ Add y
+
+-- the operation suits an ack of s: a seeded one, taken only by its recipient, or the add of s
+abbrev pub SuitsAck : History → Id → (took : Bool) → Message → Type 0
+SuitsAck p s took o =
+    (IsSeeded o.kind × (took ≡ true → InView remove_wins p o s × (s ≢ o.sender))) ⊎ (o.kind ≡ Add s)
+
+-- what the cards say of the inviter of an id: 32 zero bytes where no card is the id's
+abbrev pub inviter_in : List Card → Id → Id
+inviter_in [] y = replicate 32 0
+inviter_in (card ∷ cards) y = cond (bytes_eq card.id y) card.inviter (inviter_in cards y)
+
+-- the place of the first id that does not come before i
+abbrev pub place : List Id → Id → ℕ
+place [] i = 0
+place (j ∷ ids) i = cond (is_lt (slice_cmp nat_cmp j i)) (place ids i + 1) 0

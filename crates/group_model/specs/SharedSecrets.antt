@@ -1,6 +1,6 @@
 -- Worlds of several members, and the ratchets and update secrets that they share.
 -- These terms use nobody's parts, books or knowledge: by recursion on a sender's own messages.
--- The DCGKA paper's key agreement correctness speaks of them (its section 5);
+-- The DCGKA paper's correctness of key agreement speaks of them;
 -- docs/SPECIFICATION.md, "The group", "Worlds and shared secrets".
 use Rattle.std.specs.Prelude.{true, false, cond, List, [], ◌∷◌, Option, None, bytes_eq, option_map}
 use Rattle.group_model.specs.Sets.{Bytes, Id}

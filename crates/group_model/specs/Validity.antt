@@ -1,9 +1,9 @@
 -- When a message is valid: seven rules over its past, each by its own name.
--- docs/SPECIFICATION.md, "The group", "Validity". The DCGKA paper leaves them to the application.
+-- docs/SPECIFICATION.md, "The group", "Validity". The rules are this project's own.
 use Rattle.std.specs.Prelude.{◌≡◌, ◌≢◌, ℕ, ◌+◌, ◌<◌, ◌≤◌, Bool, true, false, cond, ◌⊎◌, List, [], ◌∷◌, length, bytes_eq}
 use Rattle.group_model.specs.Sets.{Id, In}
 use Rattle.group_model.specs.Messages.{Kind, Create, Update, Remove, Add, Ack, AddAck, Text, Message, History, past, AreHeads}
-use Rattle.group_model.specs.Membership.{Named, IsSeeded, InView, ids_named, AreAddressees}
+use Rattle.group_model.specs.Membership.{Named, Removes, IsSeeded, InView, ids_named, AreAddressees}
 
 -- an operation: a create, update, remove or add
 abbrev pub IsOperation : Kind → Type 0
@@ -112,9 +112,16 @@ IsInTurn p s Text = AnswersNone p s
 abbrev pub FollowsHeads : History → Message → Type 0
 FollowsHeads p m = AreHeads p m.predecessors
 
--- Seventh rule, limits of the history that takes the message
-pub record IsWithinLimits (h : History) (m : Message) : Type 0 where
+-- the member x answers the message in the step that takes it: an operation of another that does not remove x
+pub record NeedsAnswer (x : Id) (m : Message) : Type 0 where
+  pub operation : IsOperation m.kind
+  pub others : m.sender ≢ x
+  pub stays : Removes m.kind x → ⊥
+
+-- Seventh rule, limits of the history of the member x that takes the message, with the answer that x then makes
+pub record IsWithinLimits (x : Id) (h : History) (m : Message) : Type 0 where
   pub messages : length (m ∷ h) ≤ 4096
+  pub answer : NeedsAnswer x m → length (m ∷ h) + 1 ≤ 4096
   pub ids : length (ids_named (m ∷ h)) ≤ 32
 
 -- the message opens a history: the fourth rule for a create, over the empty history

@@ -3,5 +3,6 @@
 //! `laws` prove what they are for; those of `plain` compute some of them slowly, as a yardstick for faster code.
 #![tactic(auto)]
 
+pub mod example;
 pub mod laws;
 pub mod plain;

@@ -1,6 +1,6 @@
 pub mod Post
 pub mod Sink
-pub mod Calls
+pub mod FileName
 pub mod Files
 pub mod MemPost
 pub mod MemEntropy

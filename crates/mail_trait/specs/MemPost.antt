@@ -1,7 +1,7 @@
 -- What a mail folder in memory shows.
 use Rattle.std.specs.Prelude.{ℕ, List}
 use Rattle.group_fields.specs.declared.counts.Counts.{Counts}
-use Rattle.mail_trait.specs.Calls.{KeepsPlan}
+use Rattle.group_fields.specs.Plan.{KeepsPlan}
 use Rattle.mail_trait.specs.Files.{files_of}
 use Rattle.mail_trait.specs.Post.{Files}
 use Rattle.mail_trait.specs.declared.mem_post.MemPost.{MemPost}

@@ -1,7 +1,7 @@
 ghost use Rattle.std.specs.Prelude.{◌≡◌, ◌↔◌, [], IsTrue, IfOk, IfErr, MatchResult, Contains};
 ghost use Rattle.group_fields.specs.Cause.{HasCause};
 ghost use Rattle.group_fields.specs.Counts.{IsRaised};
-ghost use Rattle.mail_trait.specs.Calls.{FailsAsPlanned};
+ghost use Rattle.group_fields.specs.Plan.{FailsAsPlanned};
 ghost use Rattle.mail_trait.specs.declared.error.MailError.TheVariants.{Failed, Memory as NoMemory};
 
 use crate::MailError;
@@ -51,7 +51,7 @@ impl Calls {
 
     /// Begins the next call, which fails here where the plan says so.
     pub(crate) fn begin(&mut self) -> Result<(), MailError>
-        ensures planned { FailsAsPlanned self.old.failing.items self.old.made self.new.made result }
+        ensures planned { FailsAsPlanned Failed self.old.failing.items self.old.made self.new.made result }
         ensures failing { self.new.failing.items ≡ self.old.failing.items }
         ensures error { IfErr result (λ error. error ≡ Failed) }
         ensures cause { HasCause Failed NoMemory self.old.counts self.new.counts result }

@@ -1,5 +1,8 @@
-ghost use Rattle.std.specs.Prelude.{◌≡◌, ◌≤◌, length, IfOk, IfSome};
+ghost use Rattle.std.specs.Prelude.{◌≡◌, ◌≤◌, length, false, Ok, Err, None, IfOk, IfSome};
 ghost use Rattle.std.specs.FinMap.{empty};
+ghost use Rattle.group_fields.specs.Cause.{HasCause};
+ghost use Rattle.mail_trait.specs.FileName.{is_file_name};
+ghost use Rattle.mail_trait.specs.declared.error.MailError.TheVariants.{Failed, Memory as NoMemory};
 
 use crate::folder::{list_files, put_file, read_file};
 use crate::streams::counted;
@@ -47,12 +50,23 @@ impl<R: Files + AllocGlobal> Post for DirPost<R> {
         counted(&mut self.counts, listing)
     }
 
-    fn read(&mut self, name: &str, limit: u32) -> Result<Option<Bytes>, MailError> {
+    /// A name that no file of the folder can have is not there.
+    fn read(&mut self, name: &str, limit: u32) -> Result<Option<Bytes>, MailError>
+        ensures within { IfOk result (λ found. IfSome found (λ bytes. length bytes ≤ limit)) }
+        ensures no_name { is_file_name name.now ≡ false → result ≡ Ok None }
+        ensures cause { HasCause Failed NoMemory (counts_of_post self.old) (counts_of_post self.new) result }
+        ensures follows { NoFewer (counts_of_post self.old) (counts_of_post self.new) }
+    {
         let found = read_file(&self.rt, self.folder.as_str(), name, limit);
         counted(&mut self.counts, found)
     }
 
-    fn put(&mut self, name: &str, bytes: &[u8]) -> Result<(), MailError> {
+    /// Under a name that no file of the folder can have nothing is put.
+    fn put(&mut self, name: &str, bytes: &[u8]) -> Result<(), MailError>
+        ensures no_name { is_file_name name.now ≡ false → result ≡ Err Failed }
+        ensures cause { HasCause Failed NoMemory (counts_of_post self.old) (counts_of_post self.new) result }
+        ensures follows { NoFewer (counts_of_post self.old) (counts_of_post self.new) }
+    {
         let written = put_file(&self.rt, self.folder.as_str(), name, bytes);
         counted(&mut self.counts, written)
     }

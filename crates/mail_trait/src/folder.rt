@@ -1,4 +1,6 @@
-ghost use Rattle.std.specs.Prelude.{◌≤◌, length, IfOk, IfSome};
+ghost use Rattle.std.specs.Prelude.{◌≡◌, ◌≤◌, ◌∷◌, ◌++◌, length, false, string_bytes, Ok, Err, None, IfOk, IfSome};
+ghost use Rattle.mail_trait.specs.FileName.{is_file_name};
+ghost use Rattle.mail_trait.specs.declared.error.MailError.TheVariants.{Failed};
 
 use crate::streams::{read_at_most, write_out};
 use crate::{Entry, Listing, MailError};
@@ -14,14 +16,19 @@ use std::{fs, io};
 const TEMPORARY: &str = ".unfinished-";
 
 /// Whether a file of the folder can have this name.
-fn is_file_name(name: &str) -> bool {
+fn is_name(name: &[u8]) -> bool
+    ensures { result ≡ is_file_name name.now }
+{
     !name.is_empty()
-        && !name.starts_with(TEMPORARY)
-        && !name.bytes().any(|byte| byte == b'/' || byte == 0)
+        && !name.starts_with(TEMPORARY.as_bytes())
+        && !name.contains(&b'/')
+        && !name.contains(&0)
 }
 
 /// Where the name stands in the folder. A folder without a name can't be opened.
-fn path_of(alloc: Global, folder: &str, name: &str) -> Result<String, MailError> {
+fn path_of(alloc: Global, folder: &str, name: &str) -> Result<String, MailError>
+    ensures { IfOk result (λ path. string_bytes path ≡ folder.now ++ 47 ∷ name.now) }
+{
     if folder.is_empty() {
         return Err(MailError::Failed);
     }
@@ -87,8 +94,9 @@ pub(crate) fn read_file<R: Files + AllocGlobal>(
     limit: u32,
 ) -> Result<Option<Bytes>, MailError>
     ensures within { IfOk result (λ found. IfSome found (λ bytes. length bytes ≤ limit)) }
+    ensures no_name { is_file_name name.now ≡ false → result ≡ Ok None }
 {
-    if !is_file_name(name) {
+    if !is_name(name.as_bytes()) {
         return Ok(None);
     }
     let path = path_of(rt.alloc(), folder, name)?;
@@ -136,8 +144,10 @@ pub(crate) fn put_file<R: Files + AllocGlobal>(
     folder: &str,
     name: &str,
     bytes: &[u8],
-) -> Result<(), MailError> {
-    if !is_file_name(name) {
+) -> Result<(), MailError>
+    ensures no_name { is_file_name name.now ≡ false → result ≡ Err Failed }
+{
+    if !is_name(name.as_bytes()) {
         return Err(MailError::Failed);
     }
     let path = path_of(rt.alloc(), folder, name)?;

@@ -1,6 +1,6 @@
 ghost use Rattle.std.specs.Prelude.{◌≡◌, ◌++◌, ◌∷◌, ◌⊎◌, [], OnOk, OnErr, IfOk, IsErrOf, Contains, map};
 ghost use Rattle.group_fields.specs.Cause.{HasCause};
-ghost use Rattle.mail_trait.specs.Calls.{next_call};
+ghost use Rattle.group_fields.specs.Plan.{next_call};
 ghost use Rattle.mail_trait.specs.declared.error.MailError.TheVariants.{Failed, Memory as NoMemory};
 
 use crate::calls::Calls;

@@ -2,7 +2,7 @@ ghost use Rattle.std.specs.Prelude.{◌≡◌, ◌≤◌, [], length, take, OnOk
 ghost use Rattle.std.specs.Option.{option_map};
 ghost use Rattle.std.specs.FinMap.{empty, get, insert};
 ghost use Rattle.group_fields.specs.Cause.{HasCause};
-ghost use Rattle.mail_trait.specs.Calls.{FailsAsPlanned};
+ghost use Rattle.group_fields.specs.Plan.{FailsAsPlanned};
 ghost use Rattle.mail_trait.specs.Post.{rows_of, SameElsewhere};
 ghost use Rattle.mail_trait.specs.declared.error.MailError.TheVariants.{Failed, Memory as NoMemory};
 
@@ -54,7 +54,7 @@ impl MemPost {
 }
 
 impl Post for MemPost {
-    ghost use Rattle.mail_trait.specs.Plans.{keeps-itself, keeps-on};
+    ghost use Rattle.group_fields.specs.Plan.{keeps-itself, keeps-on};
     ghost use Rattle.mail_trait.specs.MemPost.{files_in, failing_calls, calls_made, counts_of, Follows};
 
     ghost told = { Unit {0} };
@@ -68,7 +68,7 @@ impl Post for MemPost {
     fn list(&mut self) -> Result<Listing, MailError>
         ensures rows { IfOk result (λ rows. rows ≡ rows_of (files_in self.old)) }
         ensures files { files_in self.new ≡ files_in self.old }
-        ensures planned { FailsAsPlanned (failing_calls self.old) (calls_made self.old) (calls_made self.new) result }
+        ensures planned { FailsAsPlanned Failed (failing_calls self.old) (calls_made self.old) (calls_made self.new) result }
         ensures cause { HasCause Failed NoMemory (counts_of self.old) (counts_of self.new) result }
         ensures follows { Follows self.old self.new }
     {
@@ -81,7 +81,7 @@ impl Post for MemPost {
         ensures within { IfOk result (λ found. IfSome found (λ bytes. length bytes ≤ limit)) }
         ensures bytes { IfOk result (λ found. found ≡ option_map (take limit) (get (files_in self.old) name.now)) }
         ensures files { files_in self.new ≡ files_in self.old }
-        ensures planned { FailsAsPlanned (failing_calls self.old) (calls_made self.old) (calls_made self.new) result }
+        ensures planned { FailsAsPlanned Failed (failing_calls self.old) (calls_made self.old) (calls_made self.new) result }
         ensures cause { HasCause Failed NoMemory (counts_of self.old) (counts_of self.new) result }
         ensures follows { Follows self.old self.new }
     {
@@ -94,7 +94,7 @@ impl Post for MemPost {
         ensures put { OnOk result (files_in self.new ≡ insert (files_in self.old) name.now bytes.now) }
         ensures others { SameElsewhere name.now (files_in self.old) (files_in self.new) }
         ensures unchanged { OnErr result (files_in self.new ≡ files_in self.old) }
-        ensures planned { FailsAsPlanned (failing_calls self.old) (calls_made self.old) (calls_made self.new) result }
+        ensures planned { FailsAsPlanned Failed (failing_calls self.old) (calls_made self.old) (calls_made self.new) result }
         ensures cause { HasCause Failed NoMemory (counts_of self.old) (counts_of self.new) result }
         ensures follows { Follows self.old self.new }
     {

@@ -1,6 +1,6 @@
 ghost use Rattle.std.specs.Prelude.{◌≡◌, ◌++◌, [], OnOk, OnErr, IfOk};
 ghost use Rattle.group_fields.specs.Cause.{HasCause};
-ghost use Rattle.mail_trait.specs.Calls.{FailsAsPlanned};
+ghost use Rattle.group_fields.specs.Plan.{FailsAsPlanned};
 ghost use Rattle.mail_trait.specs.Sink.{AppendsPrefix};
 ghost use Rattle.mail_trait.specs.declared.error.MailError.TheVariants.{Failed, Memory as NoMemory};
 
@@ -54,7 +54,7 @@ impl MemSink {
 }
 
 impl Sink for MemSink {
-    ghost use Rattle.mail_trait.specs.Plans.{keeps-itself, keeps-on};
+    ghost use Rattle.group_fields.specs.Plan.{keeps-itself, keeps-on};
     ghost use Rattle.mail_trait.specs.MemSink.{bytes_in, failing_calls, calls_made, counts_of, Follows};
 
     ghost told = { Unit {0} };
@@ -69,7 +69,7 @@ impl Sink for MemSink {
         ensures written { OnOk result (bytes_in self.new ≡ bytes_in self.old ++ bytes.now) }
         ensures prefix { AppendsPrefix bytes.now (bytes_in self.old) (bytes_in self.new) }
         ensures unchanged { OnErr result (bytes_in self.new ≡ bytes_in self.old) }
-        ensures planned { FailsAsPlanned (failing_calls self.old) (calls_made self.old) (calls_made self.new) result }
+        ensures planned { FailsAsPlanned Failed (failing_calls self.old) (calls_made self.old) (calls_made self.new) result }
         ensures cause { HasCause Failed NoMemory (counts_of self.old) (counts_of self.new) result }
         ensures follows { Follows self.old self.new }
     {

@@ -101,7 +101,7 @@ fn make<D: Disk, E: Entropy, S: Sink>(
 fn end_opening<S: Sink>(alloc: Global, fault: JournalFault, out: &mut S) -> Ended
     ensures disk { fault ≡ JournalFault.Disk → (result ≡ ended_with 4) × (out.new ≡ out.old) }
     ensures memory { fault ≡ JournalFault.Memory → (result ≡ ended_with 9) × (out.new ≡ out.old) }
-    ensures not_journal { (place : ℕ) → fault ≡ NotJournal place → (result ≡ ended_with 9) ⊎ Says S.told S.written S.counts S.follows out.old out.new (not_journal_line place) (not_journal_at place) result }
+    ensures not_journal { (place : ℕ) → fault ≡ NotJournal place → ((result ≡ ended_with 9) × (out.new ≡ out.old)) ⊎ Says S.told S.written S.counts S.follows out.old out.new (not_journal_line place) (not_journal_at place) result }
 {
     match fault {
         JournalFault::Disk => Ended::DISK_FAULT,

@@ -63,7 +63,7 @@ impl<D: Disk> Journal<D> {
         self.layout.rooms[index as usize].place
     }
 
-    /// A record.
+    /// A record. Where the disk has fewer bytes than when it was opened, the bytes are no journal at the record's place.
     pub fn read(&mut self, index: u32) -> Result<Bytes, JournalFault>
         requires { index < length (places self.old) }
         ensures record { D.told → IfOk result (λ bytes. slice_get (records D.content self.old) index ≡ Some bytes) }
@@ -72,6 +72,7 @@ impl<D: Disk> Journal<D> {
         ensures next { next_place self.new ≡ next_place self.old }
         ensures keeps { KeepsDisk D.told D.content D.image D.clock D.image_since D.follows (disk_of self.old) (disk_of self.new) }
         ensures journal { D.told → (place : ℕ) → IsErrOf result (NotJournal place) → ⊥ }
+        ensures short { (place : ℕ) → IsErrOf result (NotJournal place) → slice_get (places self.old) index ≡ Some place }
         ensures cause { FaultHasCause (D.counts (disk_of self.old)) (D.counts (disk_of self.new)) result }
     {
         let room = self.layout.rooms[index as usize];

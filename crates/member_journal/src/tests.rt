@@ -174,28 +174,167 @@ fn a_crash_leaves_the_old_records_or_one_more(rt: HostRuntime) -> Result<(), Fai
     Ok(())
 }
 
-/// Whether a journal of 500 records of one byte opens where the call with this number fails.
-fn opens_where(alloc: Global, failing: u32) -> Result<bool, Fail> {
-    let mut disk = MemDisk::new(alloc, &[failing])?;
+/// How many records the large journal has, and how many bytes each of them has.
+const MANY: u32 = 4_000;
+
+const LONG: usize = 5_000;
+
+/// A settled disk with a large journal, of 20 million bytes, of which the call with this number fails.
+fn large_disk(alloc: Global, failing: u32) -> Result<MemDisk, Fail> {
     let mut bytes = b"DCGKAJ1\n".as_slice().to_vec(alloc)?;
-    for _ in 0..500 {
-        bytes.extend_from_slice(b"\x01\0\0\0\x01a")?;
+    for _ in 0..MANY {
+        bytes.extend_from_slice(b"\x01\0\0\x13\x88")?;
+        bytes.extend_from_slice(&[b'a'; LONG])?;
     }
     bytes.push(0)?;
+    let mut disk = MemDisk::new(alloc, &[failing])?;
     disk.write_at(0, bytes.as_slice())?;
-    match Journal::open(alloc, disk) {
-        Ok(journal) => {
-            let _ = journal.close();
-            Ok(true)
+    Ok(disk)
+}
+
+/// A disk that tells nothing, and notes which calls it has had. Its reads find no byte after so many calls.
+#[derive(Drop)]
+struct WatchedDisk {
+    disk: MemDisk,
+    honest: u64,
+    calls: u64,
+    /// How many bytes its reads asked for, all together.
+    asked: u64,
+    /// Where the last read ended, and whether each read began behind the one before.
+    end: u64,
+    is_forward: bool,
+}
+
+impl WatchedDisk {
+    fn new(disk: MemDisk, honest: u64) -> WatchedDisk {
+        WatchedDisk {
+            disk,
+            honest,
+            calls: 0,
+            asked: 0,
+            end: 0,
+            is_forward: true,
         }
-        Err(_) => Ok(false),
     }
 }
 
-// A write comes first. Opening syncs, asks for the length, and reads the magic and then each gate once.
+impl Disk for WatchedDisk {
+    ghost use Rattle.std.specs.Prelude.{[]};
+    ghost use Rattle.disk_trait.specs.MemDisk.{counted};
+
+    ghost told = { ⊥ };
+
+    ghost content = { λ watched. [] };
+
+    ghost image = { λ watched c. ⊥ };
+
+    ghost clock = { λ watched. 0 };
+
+    ghost image_since = { λ watched from c. ⊥ };
+
+    ghost counts = { λ watched. counted watched.disk };
+
+    ghost follows = { λ watched later. Unit {0} };
+
+    ghost content_is_image = { λ watched told. told };
+
+    ghost counts_now = { λ watched from c told early image. image };
+
+    ghost only_now = { λ watched c told since. since };
+
+    ghost follows_itself = { λ watched. tt };
+
+    ghost follows_on = { λ first second third early late. tt };
+
+    fn len(&mut self) -> Result<u64, DiskError> {
+        self.calls = self.calls.saturating_add(1);
+        self.disk.len()
+    }
+
+    fn read(&mut self, at: u64, into: &mut [u8]) -> Result<usize, DiskError> {
+        self.calls = self.calls.saturating_add(1);
+        self.asked = self.asked.saturating_add(into.len() as u64);
+        self.is_forward = self.is_forward && self.end <= at;
+        self.end = at.saturating_add(into.len() as u64);
+        if self.calls > self.honest {
+            return Ok(0);
+        }
+        self.disk.read(at, into)
+    }
+
+    fn write_at(&mut self, at: u64, bytes: &[u8]) -> Result<(), DiskError> {
+        self.calls = self.calls.saturating_add(1);
+        self.disk.write_at(at, bytes)
+    }
+
+    fn sync(&mut self) -> Result<(), DiskError> {
+        self.calls = self.calls.saturating_add(1);
+        self.disk.sync()
+    }
+}
+
+// Opening syncs, asks for the length, reads the 8 bytes of the magic and then, from front to back, the 5 bytes of each gate and
+// its length, the last gate too.
 #[test]
 fn opens_by_one_read_for_each_record(rt: HostRuntime) -> Result<(), Fail> {
-    assert_eq!(rt; opens_where(rt.alloc(), 1 + 3 + 501)?, false);
-    assert_eq!(rt; opens_where(rt.alloc(), 1 + 3 + 501 + 1)?, true);
+    let watched = WatchedDisk::new(large_disk(rt.alloc(), 0)?, u64::MAX);
+    let journal = Journal::open(rt.alloc(), watched).map_err(|(_, fault)| fault)?;
+    assert_eq!(rt; journal.count(), MANY);
+    let watched = journal.close();
+    assert_eq!(rt; watched.calls, 3 + 4_001);
+    assert_eq!(rt; watched.asked, 8 + 5 * 4_001);
+    assert_eq!(rt; watched.is_forward, true);
+    Ok(())
+}
+
+/// How many records the large journal has when it is opened, and the first fault of opening it and reading a record, where the
+/// call with this number fails.
+fn first_fault(alloc: Global, failing: u32) -> Result<(u32, Option<JournalFault>), Fail> {
+    match Journal::open(alloc, large_disk(alloc, failing)?) {
+        Ok(mut journal) => {
+            let count = journal.count();
+            let fault = if count > 0 {
+                journal.read(0).err()
+            } else {
+                None
+            };
+            let _ = journal.close();
+            Ok((count, fault))
+        }
+        Err((_, fault)) => Ok((0, Some(fault))),
+    }
+}
+
+// The write comes first, so that the last call of opening has the number 1 + 3 + 4,001. The next one is that of reading.
+#[test]
+fn opening_ends_with_the_last_gate(rt: HostRuntime) -> Result<(), Fail> {
+    let disk = Some(JournalFault::Disk);
+    for (failing, want) in [
+        (2, (0, disk)),
+        (4_005, (0, disk)),
+        (4_006, (MANY, disk)),
+        (4_007, (MANY, None)),
+    ] {
+        let found = first_fault(rt.alloc(), failing)?;
+        assert_eq!(rt; found, want, "call {failing} fails");
+    }
+    Ok(())
+}
+
+// Opening makes 5 calls, of which the last three read the magic and the two gates.
+#[test]
+fn a_disk_that_tells_nothing_may_end_early(rt: HostRuntime) -> Result<(), Fail> {
+    let bytes = b"DCGKAJ1\n\x01\0\0\0\x02ab\0";
+    for (honest, count) in [(2, 0), (3, 0), (4, 1), (5, 1)] {
+        let disk = WatchedDisk::new(disk_with(rt.alloc(), bytes.as_slice())?, honest);
+        let mut journal = Journal::open(rt.alloc(), disk).map_err(|(_, fault)| fault)?;
+        assert_eq!(rt; journal.count(), count, "after {honest} calls");
+        if journal.count() > 0 {
+            let short = journal.read(0).err();
+            assert_eq!(rt; short, Some(JournalFault::NotJournal(9)));
+            assert_eq!(rt; journal.count(), count, "after {honest} calls");
+        }
+        let _ = journal.close();
+    }
     Ok(())
 }

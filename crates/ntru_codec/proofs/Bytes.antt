@@ -79,20 +79,20 @@ Shrinking-start limit m h = (
   },
 )
 
-given_off-more : (r limit w m : ℕ) → limit ≤ m → given_off (suc r) limit (digit w m) ≡ w % 256 ∷ given_off r limit (digit (w / 256) ((m + 255) / 256))
+pub given_off-more : (r limit w m : ℕ) → limit ≤ m → given_off (suc r) limit (digit w m) ≡ w % 256 ∷ given_off r limit (digit (w / 256) ((m + 255) / 256))
 unfolding given_off
 given_off-more r limit w m h = grind (arith, nat_tests)
 
-given_off-none : (r limit w m : ℕ) → m < limit → given_off r limit (digit w m) ≡ []
+pub given_off-none : (r limit w m : ℕ) → m < limit → given_off r limit (digit w m) ≡ []
 unfolding given_off
 given_off-none zero limit w m h = refl
 given_off-none (suc r) limit w m h = grind (arith, nat_tests)
 
-left_over-more : (r limit w m : ℕ) → limit ≤ m → left_over (suc r) limit (digit w m) ≡ left_over r limit (digit (w / 256) ((m + 255) / 256))
+pub left_over-more : (r limit w m : ℕ) → limit ≤ m → left_over (suc r) limit (digit w m) ≡ left_over r limit (digit (w / 256) ((m + 255) / 256))
 unfolding left_over
 left_over-more r limit w m h = grind (arith, nat_tests)
 
-left_over-none : (r limit w m : ℕ) → m < limit → left_over r limit (digit w m) ≡ digit w m
+pub left_over-none : (r limit w m : ℕ) → m < limit → left_over r limit (digit w m) ≡ digit w m
 unfolding left_over
 left_over-none zero limit w m h = refl
 left_over-none (suc r) limit w m h = grind (arith, nat_tests)

@@ -5,3 +5,4 @@ pub mod Rounds
 pub mod Coding
 pub mod Sizes
 pub mod Codes
+pub mod Giving

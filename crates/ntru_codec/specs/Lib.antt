@@ -2,3 +2,4 @@ pub mod Mixed
 pub mod Small
 pub mod Rows
 pub mod Round
+pub mod Digits

@@ -8,10 +8,12 @@
 mod digit;
 mod mixed;
 mod moduli;
+mod plain;
 mod rows;
 mod small;
 
 pub use mixed::{decode_mixed, encode_mixed, encoded_len};
+pub use plain::plain_mixed;
 pub use small::{decode_small, encode_small};
 
 #[cfg(test)]

@@ -1,6 +1,7 @@
 //! Worked rows, sizes, and vectors of another program.
 
-ghost use Rattle.std.specs.Prelude.{◌≡◌, IfOk, vec_len};
+ghost use Rattle.std.specs.Prelude.{◌≡◌, ◌<◌, IfOk, vec_len};
+ghost use Rattle.std.specs.List.{All};
 
 use super::*;
 use std::alloc::{AllocError, Global};
@@ -124,4 +125,58 @@ fn packs_small_coefficients(rt: HostRuntime) {
         assert_eq!(rt; decode_small(bytes, &mut read), None, "at {bytes:?}");
     }
     assert_eq!(rt; read, [1, 0, -1, 1, 0]);
+}
+
+/// Writes digits drawn by a linear congruential generator, below the modulus.
+fn draw(seed: u32, modulus: u16, digits: &mut [u16])
+    requires { 0 < modulus }
+    ensures { All (λ r. r < modulus) digits.new }
+{
+    let mut word = seed;
+    for i in 0..digits.len() {
+        word = word.wrapping_mul(1_664_525).wrapping_add(1_013_904_223);
+        digits[i] = ((word >> 16) % u32::from(modulus)) as u16;
+    }
+}
+
+/// Drawn digits are encoded as the definition has it, and read back.
+fn check_drawn(
+    rt: &(impl Abort + AllocGlobal),
+    seed: u32,
+    count: usize,
+    modulus: u16,
+) -> Result<(), Fail> {
+    assert!(rt; 0 < count && count <= 761 && 0 < modulus);
+    let mut digits = vec![in rt.alloc(); 0u16; count]?;
+    draw(seed, modulus, digits.as_mut_slice());
+    let bytes = plain_mixed(rt.alloc(), digits.as_slice(), modulus)?;
+    check_mixed(rt, modulus, digits.as_slice(), bytes.as_slice())
+}
+
+#[test]
+fn agrees_with_the_definition(rt: HostRuntime) -> Result<(), Fail> {
+    for (count, modulus) in [
+        (37, 127),
+        (37, 43),
+        (1, 300),
+        (2, 255),
+        (3, 256),
+        (6, 65535),
+        (7, 1),
+    ] {
+        for seed in 0..10u32 {
+            check_drawn(&rt, seed, count, modulus)?;
+        }
+    }
+    Ok(())
+}
+
+#[test]
+fn agrees_at_the_large_set(rt: HostRuntime) -> Result<(), Fail> {
+    for (count, modulus) in [(761, 4591), (761, 1531), (760, 4591)] {
+        for seed in 0..2u32 {
+            check_drawn(&rt, seed, count, modulus)?;
+        }
+    }
+    Ok(())
 }

@@ -1,5 +1,5 @@
 -- Pairs that are drawn are tested.
-use Rattle.std.proofs.Common.{◌≡◌, ℕ, ◌%◌, ◌<◌, Option, Some, List, length, All, option_map, ℤ, pos, refl, sym, ap, subst, ◌∙◌, arith}
+use Rattle.std.proofs.Common.{◌≡◌, ℕ, ◌%◌, ◌<◌, Some, List, length, All, ℤ, pos, refl, sym, ap, subst, ◌∙◌, arith}
 use Rattle.std.proofs.lemmas.Int.{ints}
 use Rattle.ring_poly.specs.Ring.{product, AreCongruent}
 use Rattle.ring_poly.proofs.Commutes.{product_comm}
@@ -11,7 +11,7 @@ use Rattle.ring_laws.proofs.Inverses.{product_one}
 use Rattle.ntru_codec.specs.Small.{IsSmall}
 use Rattle.ntru_model.specs.Parameters.{Parameters, small_len}
 use Rattle.ntru_model.specs.Residues.{product_mod, inverse_mod}
-use Rattle.ntru_model.specs.Draws.{Stream, small_draw, short_draw, bytes_draw, Invertible, first_invertible}
+use Rattle.ntru_model.specs.Draws.{Stream, small_draw, short_draw, Invertible}
 use Rattle.ntru_model.specs.Pairs.{KeyPair, g_of, tries, pair_drawn}
 use Rattle.ntru_model.proofs.Options.{and_then_parts, map_parts}
 use Rattle.ntru_model.proofs.Small.{all_small_within, all_centred_within}
@@ -19,13 +19,8 @@ use Rattle.ntru_model.proofs.Residues.{length-product_mod, product_mod_centred, 
 use Rattle.ntru_model.proofs.Inverses.{from_inverse, one_centred}
 use Rattle.ntru_model.proofs.Drawn.{small_draw_small, length-small_draw, short_draw_short, length-short_draw, length-bytes_draw, first_gives}
 use Rattle.ntru_model.proofs.Sets.{IsSet}
+use Rattle.ntru_model.proofs.Steps.{with_short, with_small, small_tries, short_tries}
 use Rattle.ntru_model.proofs.Tested.{IsTested}
-
-abbrev with_short : Parameters → Invertible → Invertible → KeyPair
-with_short s g f = record { f = f.drawn; g_inverse = g.inverse; h = product_mod s.p s.q g.drawn f.inverse; rho = bytes_draw (small_len s) f.left }
-
-abbrev with_small : Parameters → Invertible → Option KeyPair
-with_small s g = option_map (with_short s g) (first_invertible s.p tries (short_draw s.p s.w) (λ f. inverse_mod s.p s.q (multiple_of (pos 3) f)) g.left)
 
 pub swapped : (p : ℕ) (a b c : List ℤ) → 1 < p → length a ≡ p → length b ≡ p → length c ≡ p → product p a (product p b c) ≡ product p b (product p a c)
 swapped p a b c some la lb lc =
@@ -72,8 +67,8 @@ made_tested s g f set lg small ig lf short jf =
 pub drawn_tested : (s : Parameters) (words : Stream) (pair : KeyPair) → IsSet s → pair_drawn s words ≡ Some pair → IsTested s pair × (length pair.rho ≡ small_len s)
 unfolding pair_drawn
 drawn_tested s words pair set e =
-    let a = and_then_parts (with_small s) (first_invertible s.p tries (small_draw s.p) (inverse_mod s.p 3) words) pair e in
-    let b = map_parts (with_short s a.0) (first_invertible s.p tries (short_draw s.p s.w) (λ f. inverse_mod s.p s.q (multiple_of (pos 3) f)) a.0.left) pair a.2 in
+    let a = and_then_parts (with_small s) (small_tries s words) pair e in
+    let b = map_parts (with_short s a.0) (short_tries s a.0.left) pair a.2 in
     let g = first_gives (λ c. (length c ≡ s.p) × All IsSmall c) s.p tries (small_draw s.p) (inverse_mod s.p 3) words a.0
     (λ u. (length-small_draw s.p u, small_draw_small s.p u)) a.1 in
     let f = first_gives (λ c. (length c ≡ s.p) × IsShort s.w c) s.p tries (short_draw s.p s.w) (λ f. inverse_mod s.p s.q (multiple_of (pos 3) f)) a.0.left b.0

@@ -10,7 +10,9 @@ pub mod Small
 pub mod Drawn
 pub mod Sets
 pub mod Bytes
+pub mod Steps
 pub mod Tested
 pub mod DrawnPairs
 pub mod Undone
 pub mod Computed
+pub mod Laws

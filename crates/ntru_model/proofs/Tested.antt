@@ -1,5 +1,5 @@
 -- Tested pairs, and their secret keys.
-use Rattle.std.proofs.Common.{◌≡◌, ◌⊎◌, inl, inr, ℕ, ◌+◌, ◌-◌, ◌<◌, min, true, cond, ◌&&◌, ◌||◌, Decides, Option, Some, None, List, ◌∷◌, ◌++◌, length, take, drop, All, nat_eq, count_by, option_map, option_and_then, ℤ, pos, negsuc, refl, sym, ap, subst, ◌∙◌, arith, append_assoc}
+use Rattle.std.proofs.Common.{◌≡◌, ◌⊎◌, inl, inr, ℕ, ◌+◌, ◌-◌, ◌<◌, min, true, cond, ◌&&◌, ◌||◌, Decides, Some, None, List, ◌∷◌, ◌++◌, length, take, drop, All, nat_eq, count_by, ℤ, pos, negsuc, refl, sym, ap, subst, ◌∙◌, arith, append_assoc}
 use Rattle.std.specs.List.{list_all}
 use Rattle.std.specs.Ordering.{int_eq}
 use Rattle.std.specs.Cmp.Lexicographic.{pointwise}
@@ -21,6 +21,7 @@ use Rattle.ntru_model.proofs.Small.{within_small, all_small_within, all_within_s
 use Rattle.ntru_model.proofs.Inverses.{same_numbers}
 use Rattle.ntru_model.proofs.Readers.{small_read-encoding, from_small_read}
 use Rattle.ntru_model.proofs.Sets.{IsSet}
+use Rattle.ntru_model.proofs.Steps.{with_h, with_inverse, with_f, fields_are, secret_read_is}
 use Rattle.ntru_model.proofs.Bytes.{public_back, from_public_read, length-small, length-public}
 
 pub record IsTested (s : Parameters) (pair : KeyPair) : Type 0 where
@@ -71,15 +72,6 @@ from_test s pair h =
     )
 
 -- the fields of a secret key
-abbrev with_h : Parameters → List ℕ → List ℤ → List ℤ → List ℤ → KeyPair
-with_h s bytes f g h = record { f = f; g_inverse = g; h = h; rho = take (small_len s) (drop (small_len s + small_len s + public_len s) bytes) }
-
-abbrev with_inverse : Parameters → List ℕ → List ℤ → List ℤ → Option KeyPair
-with_inverse s bytes f g = option_map (with_h s bytes f g) (public_read s (take (public_len s) (drop (small_len s + small_len s) bytes)))
-
-abbrev with_f : Parameters → List ℕ → List ℤ → Option KeyPair
-with_f s bytes f = option_and_then (with_inverse s bytes f) (small_read s.p (take (small_len s) (drop (small_len s) bytes)))
-
 record HasFields (s : Parameters) (bytes : List ℕ) (pair : KeyPair) : Type 0 where
   f_len : length pair.f ≡ s.p
   f_small : All IsSmall pair.f
@@ -139,7 +131,7 @@ five_parts A B C D E a c la lb lc ld =
 
 -- the pair of its secret key
 pub read_back : (s : Parameters) (pair : KeyPair) → IsSet s → IsTested s pair → length pair.rho ≡ small_len s → secret_read s (secret_key s pair) ≡ Some pair
-unfolding secret_read fields_read secret_key
+unfolding secret_key
 read_back s pair set t len =
     let bytes = secret_key s pair in
     let parts = five_parts (small_encoding pair.f) (small_encoding pair.g_inverse) (public_key s pair) pair.rho (hash 4 (public_key s pair)) (small_len s) (public_len s)
@@ -151,15 +143,9 @@ read_back s pair set t len =
     let h : public_read s (take (public_len s) (drop (small_len s + small_len s) (secret_key s pair))) ≡ Some pair.h =
     ap (public_read s) parts.2 ∙ public_back s pair.h set t.h_len t.h_centred in
     let fields : fields_read s (secret_key s pair) ≡ Some pair =
-    ap (option_and_then (with_f s (secret_key s pair))) f
-    ∙ ap (option_and_then (with_inverse s (secret_key s pair) pair.f)) g
-    ∙ ap (option_map (with_h s (secret_key s pair) pair.f pair.g_inverse)) h
+    fields_are s (secret_key s pair) pair.f pair.g_inverse pair.h f g h
     ∙ ap (λ rho. Some (record { f = pair.f; g_inverse = pair.g_inverse; h = pair.h; rho = rho })) parts.3 in
-    let passes : (is_tested s pair && pointwise nat_eq (secret_key s pair) (secret_key s pair)) ≡ true =
-    true_both (is_tested s pair) (pointwise nat_eq (secret_key s pair) (secret_key s pair)) (test_holds s pair t.f_short.weight t.g_small t.g_one)
-    ((bytes_eq-Decides (secret_key s pair) (secret_key s pair)).1 refl) in
-    ap (option_and_then (λ x. cond (is_tested s x && pointwise nat_eq (secret_key s x) (secret_key s pair)) (Some x) None)) fields
-    ∙ ap (λ b. cond b (Some pair) None) passes
+    secret_read_is s (secret_key s pair) pair fields (test_holds s pair t.f_short.weight t.g_small t.g_one) refl
 
 -- lengths
 pub length-hash : (b : ℕ) (bytes : List ℕ) → length (hash b bytes) ≡ 32

@@ -1,5 +1,5 @@
 -- Decapsulation finds the short polynomial of a ciphertext, and the key of it.
-use Rattle.std.proofs.Common.{◌≡◌, ℕ, ◌+◌, ◌-◌, ◌*◌, ◌/◌, ◌%◌, ◌<◌, cond, true, false, Some, List, ◌++◌, length, map, take, replicate, All, nat_eq, count_by, option_map, option_and_then, ℤ, pos, refl, sym, ap, subst, ◌∙◌, arith}
+use Rattle.std.proofs.Common.{◌≡◌, ℕ, ◌+◌, ◌-◌, ◌*◌, ◌/◌, ◌%◌, ◌<◌, cond, true, false, Some, List, ◌++◌, length, map, take, replicate, All, nat_eq, count_by, ℤ, pos, refl, sym, ap, subst, ◌∙◌, arith}
 use Rattle.std.specs.Cmp.Lexicographic.{pointwise}
 use Rattle.std.proofs.lemmas.Int.{ints}
 use Rattle.std.proofs.lemmas.Bool.Decides.{Decides-eqb}
@@ -30,6 +30,7 @@ use Rattle.ntru_model.proofs.Inverses.{product_one_from}
 use Rattle.ntru_model.proofs.Drawn.{short_draw_short, length-short_draw}
 use Rattle.ntru_model.proofs.Sets.{IsSet}
 use Rattle.ntru_model.proofs.Bytes.{public_back, rounded_back, triples_from_rounded, length-core}
+use Rattle.ntru_model.proofs.Steps.{encapsulated_by, decapsulated_with, decapsulated_is}
 use Rattle.ntru_model.proofs.Tested.{IsTested, tested_from_read, length-hash}
 
 -- the polynomial of the ciphertext
@@ -150,28 +151,23 @@ same_cipher s pair r =
 
 pub undone : (s : Parameters) (pair : KeyPair) (r : List ℤ) → IsSet s → IsTested s pair → length r ≡ s.p → IsShort s.w r
     → decapsulated s pair (cipher_of s pair.h (public_key s pair) r) ≡ Some (key_of r (cipher_of s pair.h (public_key s pair) r))
-unfolding decapsulated
 undone s pair r set t len short =
-    ap (option_map (λ core. answer s pair (cipher_of s pair.h (public_key s pair) r) (r_of s (r_found s pair core)))) (core_read s pair.h (public_key s pair) r set)
+    decapsulated_is s pair (cipher_of s pair.h (public_key s pair) r) (core_of s pair.h r) (core_read s pair.h (public_key s pair) r set)
     ∙ ap (λ x. Some (answer s pair (cipher_of s pair.h (public_key s pair) r) x)) (ap (r_of s) (found_again s pair r set t len short) ∙ kept_short s r short)
     ∙ ap Some (same_cipher s pair r)
 
 -- what is encapsulated to the public key of a tested pair
 pub encapsulated_is : (s : Parameters) (pair : KeyPair) (words : Stream) (e : Encapsulated) → IsSet s → IsTested s pair → encapsulated s (public_key s pair) words ≡ Some e
     → encapsulation s pair.h (public_key s pair) (short_draw s.p s.w words) ≡ e
-unfolding encapsulated
 encapsulated_is s pair words e set t h =
-    let parts = map_parts (λ x. encapsulation s x (public_key s pair) (short_draw s.p s.w words)) (public_read s (public_key s pair)) e h in
-    let same : pair.h ≡ parts.0 = some_same pair.h parts.0 (sym (public_back s pair.h set t.h_len t.h_centred) ∙ parts.1) in
-    ap (λ x. encapsulation s x (public_key s pair) (short_draw s.p s.w words)) same ∙ parts.2
+    some_same (encapsulation s pair.h (public_key s pair) (short_draw s.p s.w words)) e
+    (sym (encapsulated_by s (public_key s pair) words pair.h (public_back s pair.h set t.h_len t.h_centred)) ∙ h)
 
 pub decapsulates_law : (s : Parameters) (secret : List ℕ) (pair : KeyPair) (words : Stream) (e : Encapsulated) → IsSet s → secret_read s secret ≡ Some pair
     → encapsulated s (public_key s pair) words ≡ Some e → decapsulated_by s secret e.cipher ≡ Some e.key
-unfolding decapsulated_by
 decapsulates_law s secret pair words e set read made =
     let t = (tested_from_read s secret pair set read).0 in
-    let r = short_draw s.p s.w words in
-    ap (option_and_then (λ x. decapsulated s x e.cipher)) read
+    decapsulated_with s secret e.cipher pair read
     ∙ subst (λ x. decapsulated s pair x.cipher ≡ Some x.key) (encapsulated_is s pair words e set t made)
     (undone s pair (short_draw s.p s.w words) set t (length-short_draw s.p s.w words) (short_draw_short s.p s.w words set.w_few))
 

@@ -50,24 +50,26 @@ fn sign_bytes(tree: &Tree, q: u32, signature: &mut [u8])
     }
 }
 
-/// Checks of a signature whose last byte is changed after each.
+/// Checks of a signature. After each its last byte is changed, and a byte of the message, on which the steps of a check depend.
 pub(crate) fn check(alloc: Global, count: u32) -> Result<[u8; 32], AllocError> {
     let tree = Tree::make(alloc, 10, &IDENTIFIER, &[0; 32])?;
     let public = tree.public();
     let mut signature = [0u8; SIGNATURE];
     sign_bytes(&tree, 0, &mut signature);
+    let mut message = [0u8; 32];
     let mut good = [0u8; 1];
     for _ in 0..count {
-        check_one(&public, &mut signature, &mut good);
+        check_one(&public, &mut message, &mut signature, &mut good);
     }
     Ok(Sha256::digest(good.as_slice()))
 }
 
-fn check_one(public: &[u8; 56], signature: &mut [u8], good: &mut [u8; 1])
+fn check_one(public: &[u8; 56], message: &mut [u8; 32], signature: &mut [u8], good: &mut [u8; 1])
     requires { length signature.old ≡ 2508 }
 {
-    if verify(public, &[0; 32], signature) {
+    if verify(public, message.as_slice(), signature) {
         good[0] = good[0].wrapping_add(1);
     }
+    message[0] = message[0].wrapping_add(1);
     signature[SIGNATURE - 1] ^= 1;
 }

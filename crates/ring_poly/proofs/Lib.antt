@@ -7,3 +7,4 @@ pub mod Commutes
 pub mod Rows
 pub mod Writes
 pub mod Centred
+pub mod Terms

@@ -5,6 +5,10 @@
 ghost use Rattle.std.specs.Prelude.{◌≡◌, ℕ, ◌+◌, ◌-◌, ◌*◌, ◌<◌, ◌≤◌, length, All, EachIndex, pos, ◌+ℤ◌, ◌*ℤ◌, ◌≤ℤ◌, ◌<ℤ◌, neg_ℤ, List, ℤ, ◌∷◌, drop, map};
 ghost use Rattle.ring_poly.specs.Ring.{coefficient, product, weighted, AreCongruent, IsCongruent, IsCentred, IsModulus, IsWithin, AreRounded};
 
+mod plain;
+
+pub use plain::plain_product;
+
 /// How many products of a sum of two coefficients and a coefficient an `i32` holds.
 const BLOCK: usize = 192;
 
@@ -204,83 +208,4 @@ pub fn round_to_three<const Q: i32>(a: &mut [i16])
 }
 
 #[cfg(test)]
-mod tests {
-    use super::*;
-    use std::test::Fail;
-
-    const A: [i16; 37] = [
-        -22, 58, -44, -13, 20, -57, -54, 42, 5, -51, -17, 11, -56, 53, 1, -36, -59, -52, -8, -10,
-        -55, -33, -52, 7, -9, -56, 42, 9, -48, 58, -35, 17, 17, 11, 58, -56, 10,
-    ];
-
-    const B: [i16; 37] = [
-        11, -13, -57, 61, -35, -58, 8, 46, -46, -26, -10, -45, 6, -48, 10, -24, 8, 41, 24, -40,
-        -50, 11, 10, 18, -39, -16, -51, 7, 28, -55, 9, -56, 16, -37, 0, 24, 5,
-    ];
-
-    const AB: [i16; 37] = [
-        32, 51, 42, 8, 40, 26, 43, -9, 2, -61, 58, -8, -8, -29, 26, -60, 36, -11, -41, -59, -41,
-        -9, -27, -3, 8, -22, -63, 22, 8, 50, 1, -43, 58, 10, -6, -3, 9,
-    ];
-
-    const S: [i16; 37] = [
-        0, 0, 0, 1, 0, 0, 0, -1, -1, 1, -1, -1, 1, 0, 1, 0, 0, 1, 0, 0, 1, -1, -1, 1, 0, -1, 0, -1,
-        0, 0, -1, 1, -1, 1, 1, 0, 0,
-    ];
-
-    const T: [i16; 37] = [
-        1, 0, 1, 0, 1, 0, -1, -1, 0, 0, 1, 1, -1, -1, 1, 1, 0, 1, 1, 1, 0, 0, 1, 0, 1, 0, -1, 0, 0,
-        -1, 1, -1, 0, -1, -1, 0, -1,
-    ];
-
-    const ST: [i16; 37] = [
-        -1, 0, 0, 1, 1, 1, -1, -1, 0, 0, 0, -1, 1, -1, 1, 0, 1, 1, 1, 0, 1, 1, 1, 0, -1, 1, -1, 0,
-        -1, 1, 1, 1, 0, 1, 1, 0, 1,
-    ];
-
-    /// The same numbers, as `center` gives them.
-    fn recentred<const Q: i32>(a: &mut [i16])
-        requires { IsModulus Q }
-        ensures { All (IsCentred Q) a.new }
-    {
-        for i in 0..a.len() {
-            a[i] = center::<Q>(a[i] as i32);
-        }
-    }
-
-    #[test]
-    fn products(rt: HostRuntime) -> Result<(), Fail> {
-        let mut a = A;
-        let mut b = B;
-        let mut out = [0i16; 37];
-        recentred::<127>(&mut a);
-        recentred::<127>(&mut b);
-        mul_q::<37, 127>(&a, &b, &mut out);
-        assert!(rt; out == AB);
-        Ok(())
-    }
-
-    #[test]
-    fn small_products(rt: HostRuntime) -> Result<(), Fail> {
-        let mut s = S;
-        let mut t = T;
-        let mut out = [0i16; 37];
-        recentred::<3>(&mut s);
-        recentred::<3>(&mut t);
-        mul_3::<37>(&s, &t, &mut out);
-        assert!(rt; out == ST);
-        Ok(())
-    }
-
-    #[test]
-    fn rounding(rt: HostRuntime) -> Result<(), Fail> {
-        let mut a = [-63i16, -62, -61, -2, -1, 0, 1, 2, 4, 61, 63];
-        recentred::<127>(&mut a);
-        round_to_three::<127>(&mut a);
-        assert!(rt; a == [-63i16, -63, -60, -3, 0, 0, 0, 3, 3, 60, 63]);
-        assert!(rt; center::<4591>(2296) == -2295);
-        assert!(rt; center::<4591>(-2296) == 2295);
-        assert!(rt; center::<3>(5) == -1);
-        Ok(())
-    }
-}
+mod tests;

@@ -62,6 +62,42 @@ fn add_multiple(factor: u32, from: usize, row: &mut [u32], basis: &[u16], at: us
     }
 }
 
+/// The same where each product fits 16 bits, so that more of them are made at once.
+fn add_small_multiple(factor: u16, from: usize, row: &mut [u32], basis: &[u16], at: usize)
+    requires place { at + length row.old ≤ length basis.now }
+    requires room { length basis.now < 2 ^ 62 }
+    requires before { (j : ℕ) → j < from → slice_index basis.now (at + j) ≡ 0 }
+    requires narrow { (k : ℕ) → factor * slice_index basis.now k < 2 ^ 16 }
+    requires fits { (j : ℕ) → j < length row.old → slice_index row.old j + factor * slice_index basis.now (at + j) < 2 ^ 32 }
+    ensures { (j : ℕ) → j < length row.old → slice_index row.new j ≡ slice_index row.old j + factor * slice_index basis.now (at + j) }
+{
+    for j in from..row.len() {
+        row[j] += u32::from(factor * basis[at + j]);
+    }
+}
+
+/// Up to this modulus the product of two numbers below it fits 16 bits.
+const NARROW: u32 = 256;
+
+/// Adds to the row a multiple of the row that is kept for a column and begins at a place. It starts a little before the
+/// column, where that row has 0, so that whole groups of numbers are added at once.
+#[inline(always)]
+fn add_kept(m: u32, factor: u32, c: usize, row: &mut [u32], basis: &[u16], at: usize)
+    requires factor { factor < m }
+    requires below { (k : ℕ) → slice_index basis.now k < m }
+    requires place { at + length row.old ≤ length basis.now }
+    requires room { length basis.now < 2 ^ 62 }
+    requires before { (j : ℕ) → j < c → slice_index basis.now (at + j) ≡ 0 }
+    requires fits { (j : ℕ) → j < length row.old → slice_index row.old j + factor * slice_index basis.now (at + j) < 2 ^ 32 }
+    ensures { (j : ℕ) → j < length row.old → slice_index row.new j ≡ slice_index row.old j + factor * slice_index basis.now (at + j) }
+{
+    if m <= NARROW {
+        add_small_multiple(factor as u16, c - c % 16, row, basis, at);
+        return;
+    }
+    add_multiple(factor, c - c % 8, row, basis, at);
+}
+
 /// Writes the row times a number, modulo m, to a place of the basis.
 #[inline(always)]
 fn keep(m: u32, scale: u32, row: &[u32], basis: &mut [u16], at: usize)
@@ -120,7 +156,7 @@ fn clear(m: u32, lead: u32, c: usize, steps: u32, row: &mut [u32], basis: &[u16]
 {
     let at = c * row.len();
     let taken = settle(m, steps, row);
-    add_multiple(m - lead, c, row, basis, at);
+    add_kept(m, m - lead, c, row, basis, at);
     taken + 1
 }
 
@@ -489,89 +525,4 @@ pub fn inverse<const P: usize, const M: i32>(alloc: Global, a: &[i16]) -> Result
 }
 
 #[cfg(test)]
-mod tests {
-    use super::*;
-    use std::test::Fail;
-
-    const A: [i16; 37] = [
-        -22, 58, -44, -13, 20, -57, -54, 42, 5, -51, -17, 11, -56, 53, 1, -36, -59, -52, -8, -10,
-        -55, -33, -52, 7, -9, -56, 42, 9, -48, 58, -35, 17, 17, 11, 58, -56, 10,
-    ];
-
-    const A_INVERSE: [i16; 37] = [
-        -31, -12, -44, 42, -50, -47, -23, -47, -25, 1, -30, -44, 32, -36, -60, -12, 36, -4, -20, 3,
-        59, -5, 1, -36, 48, 36, -48, -42, 57, -54, -4, -7, 27, -18, 48, -19, 50,
-    ];
-
-    const S: [i16; 37] = [
-        0, 0, 0, 1, 0, 0, 0, -1, -1, 1, -1, -1, 1, 0, 1, 0, 0, 1, 0, 0, 1, -1, -1, 1, 0, -1, 0, -1,
-        0, 0, -1, 1, -1, 1, 1, 0, 0,
-    ];
-
-    const S_INVERSE: [i16; 37] = [
-        0, 1, -1, -1, 0, 0, -1, 0, -1, -1, -1, -1, 1, 0, -1, 0, -1, -1, -1, 0, -1, 1, -1, 0, 0, 1,
-        0, 0, 1, 1, 0, 0, 0, 0, 1, 0, 0,
-    ];
-
-    /// Divides x^37 - x - 1 modulo 3: x^3 + x^2 - 1.
-    const DIVISOR: [i16; 4] = [-1, 0, 1, 1];
-
-    /// Divides x^37 - x - 1 modulo 127: x - 41.
-    const LINEAR: [i16; 2] = [-41, 1];
-
-    /// The same numbers, as `center` gives them.
-    fn recentred<const Q: i32>(a: &mut [i16])
-        requires { IsModulus Q }
-        ensures { All (IsCentred Q) a.new }
-    {
-        for i in 0..a.len() {
-            a[i] = center::<Q>(a[i] as i32);
-        }
-    }
-
-    #[test]
-    fn inverse_modulo_127(rt: HostRuntime) -> Result<(), Fail> {
-        let mut a = A;
-        recentred::<127>(&mut a);
-        match inverse::<37, 127>(rt.alloc(), &a)? {
-            Solved::Inverse(b) => assert!(rt; b.as_slice() == A_INVERSE.as_slice()),
-            Solved::Kernel(_) => assert!(rt; false),
-        }
-        Ok(())
-    }
-
-    #[test]
-    fn inverse_modulo_3(rt: HostRuntime) -> Result<(), Fail> {
-        let mut s = S;
-        recentred::<3>(&mut s);
-        match inverse::<37, 3>(rt.alloc(), &s)? {
-            Solved::Inverse(b) => assert!(rt; b.as_slice() == S_INVERSE.as_slice()),
-            Solved::Kernel(_) => assert!(rt; false),
-        }
-        Ok(())
-    }
-
-    #[test]
-    fn no_inverse(rt: HostRuntime) -> Result<(), Fail> {
-        let mut divisor = [0i16; 37];
-        recentred::<3>(&mut divisor);
-        match inverse::<37, 3>(rt.alloc(), &divisor)? {
-            Solved::Inverse(_) => assert!(rt; false),
-            Solved::Kernel(z) => assert!(rt; z.into_vec().len() == 37),
-        }
-        divisor[..4].copy_from_slice(&DIVISOR);
-        recentred::<3>(&mut divisor);
-        match inverse::<37, 3>(rt.alloc(), &divisor)? {
-            Solved::Inverse(_) => assert!(rt; false),
-            Solved::Kernel(z) => assert!(rt; z.into_vec().len() == 37),
-        }
-        let mut linear = [0i16; 37];
-        linear[..2].copy_from_slice(&LINEAR);
-        recentred::<127>(&mut linear);
-        match inverse::<37, 127>(rt.alloc(), &linear)? {
-            Solved::Inverse(_) => assert!(rt; false),
-            Solved::Kernel(z) => assert!(rt; z.into_vec().len() == 37),
-        }
-        Ok(())
-    }
-}
+mod tests;

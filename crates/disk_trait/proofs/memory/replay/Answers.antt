@@ -15,7 +15,6 @@ overwrite-requires c =
     omega (
       arith,
       c.requires,
-      c.as_slice.ensures,
       ap length c.as_slice.ensures,
       ap length (sym next ∙ c.loop-change.invariant.rest),
       c.loop-change.invariant.room,

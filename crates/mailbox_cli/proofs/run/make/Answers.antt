@@ -5,7 +5,7 @@ use Rattle.member_journal.specs.Journal.{disk_of, entries, next_place}
 use Rattle.member_journal.specs.declared.fault.JournalFault.{JournalFault}
 use Rattle.member_journal.specs.declared.journal.Journal.{Journal}
 use Rattle.mailbox_cli.specs.Steps.{Step, inviter_of}
-use Rattle.mailbox_cli.specs.Ends.{made}
+use Rattle.mailbox_cli.specs.Ends.{made, line_for}
 use Rattle.mailbox_cli.specs.Lines.{made_line}
 use Rattle.mailbox_cli.specs.Says.{ended_with}
 use Rattle.mailbox_cli.proofs.Endings.{append_failed, said}
@@ -42,12 +42,13 @@ returns-in-Err-clause-ends g c =
     (λ place is. c.in-Err.ensures.cause.journal place (ap (λ (f : JournalFault). let r : Result (Journal g.row.D.Denot g.D.Disk) JournalFault = Err f in r) is))
     (λ is. c.in-Err.ensures.cause.fault (ap (λ (f : JournalFault). let r : Result (Journal g.row.D.Denot g.D.Disk) JournalFault = Err f in r) is))
     (λ is. c.in-Err.ensures.cause.want (ap (λ (f : JournalFault). let r : Result (Journal g.row.D.Denot g.D.Disk) JournalFault = Err f in r) is))
+    refl
 
 pub returns-in-Ok-append-clause-ends : goal.returns-in-Ok-append-clause-ends
 returns-in-Ok-append-clause-ends g c =
     let step : Step = record { inviter = inviter_of c.args.inviter; random = c.seed32.new.into } in
     said g.D.Disk g.E.Entropy g.S.Sink (disk_of c.args.journal) c.close-in-Ok-append.result c.args.entropy.now c.seed32.new.self c.args.out.now c.print_line-ended.new.out
-    made_line (ended_with 0) c.print_line-ended.result c.print_line-ended.ensures
+    made_line (ended_with 0) c.print_line-ended.result c.print_line-ended.ensures (λ told. sym (ap line_for (c.requires.absent told)))
     (λ is line. made is line c.requires.absent (λ told. (
       step,
       one_appended c.args.journal c.in-Ok-append.journal c.close-in-Ok-append.result c.init_record.result step c.requires.none c.init_record.ensures.record c.init_record.ensures.inviter

@@ -1,7 +1,8 @@
-use Rattle.std.proofs.Common.{◌≡◌, ◌++◌, [], ◌∷◌, ◌∙◌, ap}
+use Rattle.std.proofs.Common.{◌≡◌, ◌++◌, [], ◌∷◌, ◌∙◌, ap, sym}
 use Rattle.disk_trait.specs.declared.memory.Change.TheVariants.{Sync}
 use Rattle.disk_trait.specs.declared.memory.MemDisk.{MemDisk}
-use Rattle.disk_trait.proofs.Moments.{durable, nothing_new, passes}
+use Rattle.disk_trait.specs.Replay.{fresh}
+use Rattle.disk_trait.proofs.Moments.{standing, durable, nothing_new, passes}
 use Rattle.disk_trait.proofs.memory.MemDiskDisk.sync.Goals as goal
 
 first_kept : (c : goal.In-Ok) → c.settle.new.self.first.items ≡ c.args.self.now.first.items
@@ -12,10 +13,13 @@ grown c =
     c.in-Ok.ensures.change ∙ ap (λ (disk : MemDisk). disk.changes.items ++ Sync ∷ []) c.in_ok-begin.ensures.ok
 
 pub returns-in-Ok-clause-durable : goal.returns-in-Ok-clause-durable
-returns-in-Ok-clause-durable c told = durable _ _ _ _ _ (first_kept c) (grown c) c.args.self.now.shows
+returns-in-Ok-clause-durable c = durable _ _ _ _ _ (first_kept c) (grown c) c.args.self.now.shows
 
 pub returns-in-Ok-clause-crash : goal.returns-in-Ok-clause-crash
-returns-in-Ok-clause-crash c told = nothing_new _ _ _ _ _ (first_kept c) (grown c) c.args.self.now.shows
+returns-in-Ok-clause-crash c = nothing_new _ _ _ _ _ (first_kept c) (grown c) c.args.self.now.shows
 
 pub returns-in-Ok-clause-time : goal.returns-in-Ok-clause-time
-returns-in-Ok-clause-time c told = passes _ _ _ _ Sync (first_kept c) (grown c)
+returns-in-Ok-clause-time c = passes _ _ _ _ Sync (first_kept c) (grown c)
+
+pub returns-in-Ok-clause-settled : goal.returns-in-Ok-clause-settled
+returns-in-Ok-clause-settled c = standing _ _ _ _ Sync (first_kept c) (grown c) ∙ ap fresh (sym c.args.self.now.shows)

@@ -1,7 +1,7 @@
 use Rattle.std.proofs.Common.{◌≡◌, ◌++◌, [], ◌∷◌, ◌∙◌, ap}
 use Rattle.disk_trait.specs.declared.memory.Change.TheVariants.{Write}
 use Rattle.disk_trait.specs.declared.memory.MemDisk.{MemDisk}
-use Rattle.disk_trait.proofs.Moments.{tears, passes}
+use Rattle.disk_trait.proofs.Moments.{standing, tears, passes}
 use Rattle.disk_trait.proofs.memory.MemDiskDisk.write_at.Goals as goal
 
 first_kept : (c : goal.In-Ok) → c.put.new.self.first.items ≡ c.args.self.now.first.items
@@ -13,7 +13,10 @@ grown c =
     ∙ ap (λ (disk : MemDisk). disk.changes.items ++ Write c.args.at c.args.bytes.now ∷ []) c.in_ok-begin.ensures.ok
 
 pub returns-in-Ok-clause-crash : goal.returns-in-Ok-clause-crash
-returns-in-Ok-clause-crash c told = tears _ _ _ _ c.args.at c.args.bytes.now (first_kept c) (grown c)
+returns-in-Ok-clause-crash c = tears _ _ _ _ c.args.at c.args.bytes.now (first_kept c) (grown c)
 
 pub returns-in-Ok-clause-time : goal.returns-in-Ok-clause-time
-returns-in-Ok-clause-time c told = passes _ _ _ _ (Write c.args.at c.args.bytes.now) (first_kept c) (grown c)
+returns-in-Ok-clause-time c = passes _ _ _ _ (Write c.args.at c.args.bytes.now) (first_kept c) (grown c)
+
+pub returns-in-Ok-clause-pending : goal.returns-in-Ok-clause-pending
+returns-in-Ok-clause-pending c = standing _ _ _ _ (Write c.args.at c.args.bytes.now) (first_kept c) (grown c)
