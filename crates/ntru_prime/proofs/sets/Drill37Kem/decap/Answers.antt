@@ -1,4 +1,4 @@
-use Rattle.std.proofs.Common.{◌≡◌, ◌+◌, sym, ap, ◌∙◌, arith}
+use Rattle.std.proofs.Common.{◌+◌, sym, ap, ◌∙◌, arith}
 use Rattle.ntru_prime.proofs.SetFacts.{little_core, little_set}
 use Rattle.ntru_prime.proofs.sets.Drill37Kem.decap.Goals as goal
 

@@ -1,4 +1,4 @@
-use Rattle.std.proofs.Common.{◌≡◌, ◌+◌, sym, ap, ◌∙◌}
+use Rattle.std.proofs.Common.{◌+◌, sym, ap, ◌∙◌}
 use Rattle.ntru_prime.proofs.SetFacts.{little_core}
 use Rattle.ntru_prime.proofs.sets.Drill37Kem.encap.Goals as goal
 

@@ -1,4 +1,4 @@
-use Rattle.std.proofs.Common.{◌≡◌, sym, ◌∙◌, arith}
+use Rattle.std.proofs.Common.{sym, ◌∙◌, arith}
 use Rattle.ntru_prime.proofs.SetFacts.{little_secret, little_set}
 use Rattle.ntru_prime.proofs.sets.Drill37Kem.pair_from_secret.Goals as goal
 

@@ -1,4 +1,4 @@
-use Rattle.std.proofs.Common.{◌≡◌, sym, ◌∙◌, arith}
+use Rattle.std.proofs.Common.{sym, ◌∙◌, arith}
 use Rattle.ntru_prime.proofs.SetFacts.{little_public, little_set}
 use Rattle.ntru_prime.proofs.sets.Drill37Kem.public.Goals as goal
 

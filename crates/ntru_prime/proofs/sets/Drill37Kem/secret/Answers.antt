@@ -1,4 +1,4 @@
-use Rattle.std.proofs.Common.{◌≡◌, sym, ap, ◌∙◌, length}
+use Rattle.std.proofs.Common.{sym, ap, ◌∙◌, length}
 use Rattle.ntru_prime.proofs.PairFacts.{pair_len}
 use Rattle.ntru_prime.proofs.SetFacts.{little_secret, little_set}
 use Rattle.ntru_prime.proofs.sets.Drill37Kem.secret.Goals as goal

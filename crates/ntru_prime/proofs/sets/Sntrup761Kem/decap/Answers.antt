@@ -1,4 +1,4 @@
-use Rattle.std.proofs.Common.{◌≡◌, ◌+◌, sym, ap, ◌∙◌, arith}
+use Rattle.std.proofs.Common.{◌+◌, sym, ap, ◌∙◌, arith}
 use Rattle.ntru_prime.proofs.SetFacts.{large_core, large_set}
 use Rattle.ntru_prime.proofs.sets.Sntrup761Kem.decap.Goals as goal
 

@@ -1,4 +1,4 @@
-use Rattle.std.proofs.Common.{◌≡◌, ◌+◌, sym, ap, ◌∙◌}
+use Rattle.std.proofs.Common.{◌+◌, sym, ap, ◌∙◌}
 use Rattle.ntru_prime.proofs.SetFacts.{large_core}
 use Rattle.ntru_prime.proofs.sets.Sntrup761Kem.encap.Goals as goal
 

@@ -1,4 +1,4 @@
-use Rattle.std.proofs.Common.{◌≡◌, sym, ◌∙◌, arith}
+use Rattle.std.proofs.Common.{sym, ◌∙◌, arith}
 use Rattle.ntru_prime.proofs.SetFacts.{large_secret, large_set}
 use Rattle.ntru_prime.proofs.sets.Sntrup761Kem.pair_from_secret.Goals as goal
 
