@@ -7,5 +7,5 @@ pub mod PairFacts
 pub mod Solving
 pub mod Makes
 pub mod FieldReads
-pub mod Tests
+pub mod Tested
 pub mod Secrets

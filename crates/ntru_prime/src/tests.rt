@@ -152,7 +152,7 @@ fn bytes_that_spell_nothing_are_refused(rt: HostRuntime) -> Result<(), Fail> {
         &mut public,
     )?;
     assert!(rt; Drill37::public_ok(&public));
-    public[32] += 1;
+    public[32] = 7;
     assert!(rt; !Drill37::public_ok(&public));
     let pair = Drill37::make(rt.alloc(), &mut SeedWords::new(&[0; 32]))?;
     let mut cipher = [0; 58];
@@ -161,7 +161,7 @@ fn bytes_that_spell_nothing_are_refused(rt: HostRuntime) -> Result<(), Fail> {
         &mut cipher[..26],
     )?;
     assert!(rt; Drill37::decap(&pair, &cipher).is_some());
-    cipher[25] += 1;
+    cipher[25] = 2;
     assert!(rt; Drill37::decap(&pair, &cipher).is_none());
     Ok(())
 }

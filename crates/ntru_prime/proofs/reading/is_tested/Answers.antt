@@ -4,7 +4,7 @@ use Rattle.std.specs.List.{count_by}
 use Rattle.ring_laws.specs.Laws.{is_nonzero}
 use Rattle.ntru_prime.specs.Sets.{set_of}
 use Rattle.ntru_prime.proofs.Sums.{product_3_by}
-use Rattle.ntru_prime.proofs.Tests.{fails_weight, fails_small, tests_product}
+use Rattle.ntru_prime.proofs.Tested.{fails_weight, fails_small, tests_product}
 use Rattle.ntru_prime.proofs.reading.is_tested.Goals as goal
 
 pub returns-then-weight : goal.returns-then-weight
