@@ -2,6 +2,7 @@
 //! prints a digest of the last result in hexadecimal digits, so that two builds can be compared.
 #![tactic(auto)]
 
+mod kems;
 mod trees;
 mod work;
 

@@ -6,7 +6,7 @@ ghost use Rattle.ring_poly.specs.Ring.{IsCentred, IsModulus};
 ghost use Rattle.ring_solve.specs.Fields.{IsField};
 ghost use Rattle.ring_solve.specs.Solutions.{coefficients_of};
 
-use crate::trees;
+use crate::{kems, trees};
 use ring_solve::Solved;
 use sha2::{Digest, Sha256};
 use std::alloc::{AllocError, Global};
@@ -36,6 +36,12 @@ pub enum Work {
     InverseQ,
     /// The same modulo 3.
     Inverse3,
+    /// A pair of the key encapsulation Sntrup761.
+    Pair,
+    /// A key encapsulated to one.
+    Encap,
+    /// The key found by it.
+    Decap,
 }
 
 /// How many coefficients a polynomial has.
@@ -56,6 +62,9 @@ impl Work {
             "product-3" => Some(Work::Product3),
             "inverse-q" => Some(Work::InverseQ),
             "inverse-3" => Some(Work::Inverse3),
+            "pair" => Some(Work::Pair),
+            "encap" => Some(Work::Encap),
+            "decap" => Some(Work::Decap),
             _ => None,
         }
     }
@@ -74,6 +83,9 @@ impl Work {
             Work::Product3 => Ok(product_3(count)),
             Work::InverseQ => inverses::<4591>(alloc, count),
             Work::Inverse3 => inverses::<3>(alloc, count),
+            Work::Pair => kems::make(alloc, count),
+            Work::Encap => kems::encapsulate(alloc, count),
+            Work::Decap => kems::decapsulate(alloc, count),
         }
     }
 }
