@@ -1,0 +1,56 @@
+-- What a member is by the step that made it: its signing tree, its key pair and its card.
+use Rattle.std.specs.Prelude.{◌≡◌, ℕ, IsTrue, ◌%◌, ◌^◌, ◌==◌, ◌&&◌, ◌||◌, List, [], take, codes, Option}
+use Rattle.std.specs.Option.{option_map}
+use Rattle.rand_chacha.specs.ChaCha.{key_of, word_at}
+use Rattle.hkdf_seal.specs.Keys.{kdf}
+use Rattle.lms_sign.specs.Trees.{LmsTree, lms_public}
+use Rattle.group_fields.specs.Cards.{key_size, spelling}
+use Rattle.group_fields.specs.declared.card.Card.{Card}
+use Rattle.kem_trait.specs.declared.kem.Kem.{Ghosts}
+
+-- the inviter's id, 32 zero bytes for nobody, and the 32 random bytes that were drawn
+pub record Origin : Type 0 where
+  pub inviter : List ℕ
+  pub random : List ℕ
+
+-- the words that the key pair is drawn from: those of the derived seed (RFC 8439, section 2.3), which repeat after 2 ^ 68
+unfoldable pub pair_words : List ℕ → ℕ → ℕ
+pair_words random n = word_at 10 (key_of (kdf random (codes "kem") [])) 0 (n % 2 ^ 68)
+
+-- the signing tree of a height
+abbrev pub signing_tree : ℕ → List ℕ → LmsTree
+signing_tree height random =
+    record {
+      height = height;
+      id = take 16 (kdf random (codes "lms id") []);
+      seed = kdf random (codes "lms seed") [];
+    }
+
+module _ {K P : Type 0} (kem : Ghosts K P) where
+  -- the secret key, where the words give a usable one
+  unfoldable pub secret_from : List ℕ → Option (List ℕ)
+  secret_from random = kem.made (pair_words random)
+
+  -- the card of a member with this secret key
+  abbrev pub card_with : ℕ → Origin → List ℕ → Card
+  card_with height origin secret =
+      record {
+        set = kem.SET;
+        lms_public = lms_public (signing_tree height origin.random);
+        inviter = record { 0 = record { 0 = origin.inviter } };
+        kem_public = kem.public_in secret;
+      }
+
+  -- the card, where the words give a usable key
+  unfoldable pub card_of : ℕ → Origin → Option Card
+  card_of height origin = option_map (card_with height origin) (secret_from origin.random)
+
+  -- the bytes that spell it
+  unfoldable pub card_bytes : ℕ → Origin → Option (List ℕ)
+  card_bytes height origin = option_map spelling (card_of height origin)
+
+  -- The members of a set and a height have cards: height 10 with set 1, height 5 or 10 with set 2.
+  pub record HasCards (height : ℕ) : Type 0 where
+    pub is_set : IsTrue ((kem.SET == 1) || (kem.SET == 2))
+    pub is_height : IsTrue ((height == 10) || ((kem.SET == 2) && (height == 5)))
+    pub public_len : kem.PUBLIC_LEN ≡ key_size kem.SET

@@ -1,0 +1,86 @@
+ghost use Rattle.std.specs.Prelude.{◌≡◌, length, IsErrOf, IsSome, IfOk, Some, None};
+ghost use Rattle.lms_sign.specs.Trees.{IsHeight, lms_public};
+ghost use Rattle.member_identity.specs.Identity.{HasCards, card_bytes, secret_from, signing_tree};
+
+use group_fields::{Bytes, Card, MemberId, Memory, write_card};
+use hkdf_seal::kdf;
+use kem_trait::{Kem, KemRefusal, SeedWords};
+use lms_sign::Tree;
+use std::alloc::Global;
+use std::marker::Model;
+
+/// A member's inviter, its random bytes and its key pair.
+#[derive(Drop)]
+pub struct Identity<K: Kem> {
+    inviter: MemberId,
+    random: [u8; 32],
+    pair: K::Pair,
+}
+
+impl<K: Kem> Model for Identity<K> {
+    ghost use Rattle.std.specs.Prelude.{◌≡◌, Some};
+    ghost use Rattle.member_identity.specs.Identity.{Origin, pair_words};
+
+    ghost Value = { Origin };
+
+    ghost view = { λ identity. record { inviter = identity.inviter.0.0; random = identity.random } };
+
+    ghost invariant = { λ identity. K.made (pair_words identity.random) ≡ Some (K.secret_key identity.pair) };
+}
+
+impl<K: Kem> Identity<K> {
+    /// The member that an inviter, 32 zero bytes for nobody, and 32 random bytes make. `NoUsableKey` exactly where the words
+    /// of the random bytes give no usable key.
+    pub fn make(
+        alloc: Global,
+        inviter: MemberId,
+        random: &[u8; 32],
+    ) -> Result<Identity<K>, KemRefusal>
+        ensures made { IfOk result (λ identity. identity ≡ record { inviter = inviter.0.0; random = random.now }) }
+        ensures usable { IfOk result (λ identity. IsSome (secret_from ⟦<K as Kem>⟧ random.now)) }
+        ensures unusable { IsErrOf result KemRefusal.NoUsableKey → secret_from ⟦<K as Kem>⟧ random.now ≡ None }
+    {
+        let mut words = SeedWords::new(&kdf(random, b"kem", b""));
+        let pair = K::make(alloc, &mut words)?;
+        Ok(Identity {
+            inviter,
+            random: *random,
+            pair,
+        })
+    }
+
+    /// The bytes of the member's card, whose LMS public key is that of a tree of this height.
+    pub fn card(&self, alloc: Global, height: u32) -> Result<Bytes, Memory>
+        requires { HasCards ⟦<K as Kem>⟧ height }
+        ensures { IfOk result (λ bytes. card_bytes ⟦<K as Kem>⟧ height self.now ≡ Some bytes) }
+    {
+        let card = Card {
+            set: K::SET,
+            lms_public: lms_public(alloc, height, &self.random)?,
+            inviter: self.inviter,
+            kem_public: kem_public::<K>(alloc, &self.pair)?,
+        };
+        write_card(alloc, &card)
+    }
+}
+
+/// The LMS public key of the member's tree of a height.
+fn lms_public(alloc: Global, height: u32, random: &[u8; 32]) -> Result<[u8; 56], Memory>
+    requires { IsHeight height }
+    ensures { IfOk result (λ public. public ≡ lms_public (signing_tree height random.now)) }
+{
+    let seed = kdf(random, b"lms seed", b"");
+    let long_id = kdf(random, b"lms id", b"");
+    let id = long_id.first_chunk::<16>().unwrap();
+    Ok(Tree::make(alloc, height, id, &seed)?.public())
+}
+
+/// The public key of a pair.
+fn kem_public<K: Kem>(alloc: Global, pair: &K::Pair) -> Result<Bytes, Memory>
+    ensures key { IfOk result (λ public. public ≡ K.public_in (K.secret_key pair.now)) }
+    ensures size { IfOk result (λ public. length public ≡ K.PUBLIC_LEN) }
+{
+    let mut public = vec![in alloc; 0; K::PUBLIC_LEN]?;
+    K::public(pair, public.as_mut_slice());
+    Ok(Bytes::from(public))
+}

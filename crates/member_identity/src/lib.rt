@@ -1,0 +1,6 @@
+//! What a member is by the step that made it: its key pair and its card.
+#![tactic(auto)]
+
+mod identity;
+
+pub use identity::Identity;
