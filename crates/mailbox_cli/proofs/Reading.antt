@@ -3,7 +3,8 @@ use Rattle.std.proofs.Common.{◌≡◌, ℕ, ◌+◌, ◌*◌, ◌<◌, ◌≤�
 use Rattle.std.proofs.lemmas.Bool.Decides.{nat_tests}
 use Rattle.std.proofs.lemmas.List.{drop_more, take_more, take_more_set, take_all, drop_all, append-nil}
 use Rattle.std.specs.Option.{option_and_then, option_map}
-use Rattle.mailbox_cli.specs.Words.{is_word, is_option, values_of, init_of, id_of, byte_of, bytes_of_digits}
+use Rattle.mailbox_cli.specs.Words.{is_word, is_option, values_of, init_of, id_of, byte_of, bytes_of_digits, without_values}
+use Rattle.mailbox_cli.specs.declared.command.Command.{Command}
 
 -- what was read, in front of what the rest stands for
 abbrev pub in_front : {A : Type 0} → List A → Option (List A) → Option (List A)
@@ -86,3 +87,8 @@ pub id_of_digits : (word : List ℕ) → length word ≡ 64 → id_of word ≡ b
 id_of_digits word size =
     let test : (length word == 64) ≡ true = grind (arith, nat_tests) in
     rw test refl
+
+-- a value where none is taken
+pub without_some : (command : Command) (values : List (List ℕ)) → 1 ≤ length values → without_values command values ≡ None
+without_some command [] some = absurd (omega arith)
+without_some command (value ∷ rest) some = refl

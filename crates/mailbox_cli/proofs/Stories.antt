@@ -1,16 +1,17 @@
--- What a run of `init` leaves on the disk, by the ways in which it ends.
-use Rattle.std.proofs.Common.{◌≡◌, ◌⊎◌, inl, inr, ⊎_elim, ℕ, List, [], ◌∷◌, ◌++◌, length, map, Option, Result, Ok, Err, refl, sym, ◌∙◌, ap, subst, arith, length-append}
+-- What a run leaves on the disk, by the ways in which it ends.
+use Rattle.std.proofs.Common.{◌≡◌, ◌⊎◌, inl, inr, ⊎_elim, ℕ, true, false, List, [], ◌∷◌, ◌++◌, length, map, Option, Result, Ok, Err, refl, sym, ◌∙◌, ap, subst, arith, length-append}
 use Rattle.std.proofs.lemmas.List.{append-nil, drop_all, drop_at, length-map}
+use Rattle.std.specs.List.{filter}
 use Rattle.group_fields.specs.declared.ids.MemberId.{MemberId}
 use Rattle.disk_trait.specs.Disk.{LeavesOnly, Throughout}
 use Rattle.disk_trait.specs.Moments.{OnlyReads, throughout_on, throughout_weaker}
 use Rattle.disk_trait.specs.declared.disk.Disk.{Ghosts as DiskGhosts}
-use Rattle.mail_trait.specs.declared.entropy.Entropy.{Ghosts as EntropyGhosts}
+use Rattle.kem_trait.specs.declared.kem.Kem.{Ghosts as KemGhosts}
 use Rattle.mail_trait.specs.declared.sink.Sink.{Ghosts as SinkGhosts}
 use Rattle.mailbox_cli.specs.Lines.{made_line}
-use Rattle.mailbox_cli.specs.Run.{planned, StandsForSome, IsUnsure, IsAcknowledged, Stored}
+use Rattle.mailbox_cli.specs.Run.{planned, init_step, StandsForSome, IsUnsure, IsAcknowledged, IsDurable, Stored}
 use Rattle.mailbox_cli.specs.Says.{ended_with}
-use Rattle.mailbox_cli.specs.Steps.{Step, inviter_of, record_of, steps_of, steps_among}
+use Rattle.mailbox_cli.specs.Steps.{Step, has_key, inviter_of, record_of, steps_of, steps_among}
 use Rattle.mailbox_cli.proofs.Records.{steps_of_one, none_of_length}
 use Rattle.member_journal.specs.Entries.{IsBeforeOrAfter}
 use Rattle.member_journal.specs.Format.{Entry, journal_of}
@@ -19,17 +20,6 @@ use Rattle.member_journal.specs.declared.journal.Journal.{Journal}
 use Rattle.member_journal.specs.declared.fault.JournalFault.{JournalFault}
 use Rattle.member_journal.specs.declared.fault.JournalFault.TheVariants.{Disk as DiskFault, Memory as NoMemory, NotJournal}
 use Rattle.mailbox_cli.specs.declared.ended.Ended.{Ended}
-
-plan_none : (inviter : Option MemberId) (before after : List (List ℕ)) → after ≡ before → planned inviter before after ≡ []
-plan_none inviter before after same =
-    ap (λ (seeds : List (List ℕ)). planned inviter before seeds) same
-    ∙ ap (map (λ random. let step : Step = record { inviter = inviter_of inviter; random = random } in step)) (drop_all (length before) before (omega arith))
-
-plan_one : (inviter : Option MemberId) (before after : List (List ℕ)) (random : List ℕ) → after ≡ before ++ random ∷ []
-    → planned inviter before after ≡ record { inviter = inviter_of inviter; random = random } ∷ []
-plan_one inviter before after random grown =
-    ap (λ (seeds : List (List ℕ)). planned inviter before seeds) grown
-    ∙ ap (map (λ drawn. let step : Step = record { inviter = inviter_of inviter; random = drawn } in step)) (drop_at before (random ∷ []) (length before) refl)
 
 longer : (xs : List ℕ) → xs ≡ xs ++ made_line → ⊥
 longer xs same = omega (arith, ap length same, length-append xs made_line)
@@ -40,177 +30,212 @@ okay steps = Ok steps
 same_steps : (steps other : List Step) → okay steps ≡ okay other → steps ≡ other
 same_steps steps other same = cc
 
-module _ {D E S : Type 0} (disks : DiskGhosts D) (sources : EntropyGhosts E) (sinks : SinkGhosts S) (inviter : Option MemberId)
-    (disk disk' : D) (entropy entropy' : E) (out out' : S) (ended : Ended) where
-  plan : List Step
-  plan = planned inviter (sources.given entropy) (sources.given entropy')
+-- a run that printed nothing and whose status is 4 or 9 acknowledged nothing
+pub not_acknowledged : {S : Type 0} (sinks : SinkGhosts S) (out out' : S) (ended : Ended) → IsUnsure ended → out' ≡ out → IsAcknowledged sinks out out' ended → ⊥
+not_acknowledged sinks out out' ended kind still (inl done) = ⊎_elim (λ four. omega (arith, done, four)) (λ nine. omega (arith, done, nine)) kind
+not_acknowledged sinks out out' ended kind still (inr printed) = longer (sinks.written out) (sym (ap sinks.written still) ∙ printed.1)
 
-  -- nothing was drawn, and the disk was only read
-  pub quiet : (sources.told → sources.given entropy' ≡ sources.given entropy) → (disks.told → OnlyReads disks.content disks.image disks.clock disks.image_since disk disk')
-      → (disks.told → (steps : List Step) → steps_of (disks.content disk) ≡ Ok steps → (IsUnsure ended → ⊥) ⊎ IsAcknowledged sinks out out' ended → LeavesOnly (disks.content disk) (disks.image disk'))
-      → Stored disks sources sinks inviter disk disk' entropy entropy' out out' ended
-  quiet same read settled = record {
-    asked = λ told. inl (same told);
-    reads = λ told told'. λ steps is. inl (ap steps_of (read told).stays ∙ is ∙ nothing told' steps);
-    accepted = λ told told' some. absurd (some (none told'));
-    other = λ told place is. (read told).stays;
-    moments = λ told told'. throughout_weaker disks.clock disks.image_since disk disk' (disks.image disk)
-        (λ image. disks.image disk image ⊎ ((steps : List Step) → steps_of (disks.content disk) ≡ Ok steps → StandsForSome steps (planned inviter (sources.given entropy) (sources.given entropy')) image))
-        (λ image old. inl old) (read told).moments;
-    images = λ told told' steps is opened image now.
-        inl (ap steps_of (settled told steps is (inl (λ unsure. opened unsure (none told'))) image now) ∙ is);
-    durable = λ told told' acknowledged steps is image now.
-        ap steps_of (settled told steps is (inr acknowledged) image now) ∙ is ∙ nothing told' steps;
-  }
-    where
-      none : sources.told → planned inviter (sources.given entropy) (sources.given entropy') ≡ []
-      none told = plan_none inviter (sources.given entropy) (sources.given entropy') (same told)
+-- the statuses of the faults of a journal
+pub four : (ended : Ended) → ended ≡ ended_with 4 → IsUnsure ended
+four ended is = inl (ap (λ (e : Ended). e.status) is)
 
-      nothing : sources.told → (steps : List Step) → okay steps ≡ Ok (steps ++ planned inviter (sources.given entropy) (sources.given entropy'))
-      nothing told steps = ap okay (sym (append-nil steps) ∙ ap (λ (ss : List Step). steps ++ ss) (sym (none told)))
-
-  -- the journal did not open
-  pub not_opened : (fault : JournalFault) → (fault ≡ DiskFault → (ended ≡ ended_with 4) × (out' ≡ out)) → (fault ≡ NoMemory → (ended ≡ ended_with 9) × (out' ≡ out))
-      → (disks.told → (place : ℕ) → fault ≡ NotJournal place → steps_of (disks.content disk) ≡ Err place) → entropy' ≡ entropy
-      → (disks.told → OnlyReads disks.content disks.image disks.clock disks.image_since disk disk')
-      → Stored disks sources sinks inviter disk disk' entropy entropy' out out' ended
-  not_opened fault failed lacked other same read = quiet (λ told. ap sources.given same) read (λ told steps is either. absurd (never fault failed lacked other told steps is either))
-    where
-      silent : (status : ℕ) → (status ≡ 4) ⊎ (status ≡ 9) → ended ≡ ended_with status → out' ≡ out → (IsUnsure ended → ⊥) ⊎ IsAcknowledged sinks out out' ended → ⊥
-      silent status kind is still (inl sure) = sure (⊎_elim (λ four. inl (ap (λ (e : Ended). e.status) is ∙ four)) (λ nine. inr (ap (λ (e : Ended). e.status) is ∙ nine)) kind)
-      silent status kind is still (inr (inl done)) =
-          let same_status : status ≡ 0 = sym (ap (λ (e : Ended). e.status) is) ∙ done in
-          ⊎_elim (λ four. omega (arith, four, same_status)) (λ nine. omega (arith, nine, same_status)) kind
-      silent status kind is still (inr (inr printed)) = longer (sinks.written out) (sym (ap sinks.written still) ∙ printed.1)
-
-      never : (fault : JournalFault) → (fault ≡ DiskFault → (ended ≡ ended_with 4) × (out' ≡ out)) → (fault ≡ NoMemory → (ended ≡ ended_with 9) × (out' ≡ out))
-          → (disks.told → (place : ℕ) → fault ≡ NotJournal place → steps_of (disks.content disk) ≡ Err place) → disks.told → (steps : List Step) → steps_of (disks.content disk) ≡ Ok steps
-          → (IsUnsure ended → ⊥) ⊎ IsAcknowledged sinks out out' ended → ⊥
-      never DiskFault failed lacked other told steps is either = silent 4 (inl refl) (failed refl).0 (failed refl).1 either
-      never NoMemory failed lacked other told steps is either = silent 9 (inr refl) (lacked refl).0 (lacked refl).1 either
-      never (NotJournal place) failed lacked other told steps is either =
-          let clash : okay steps ≡ Err place = sym is ∙ other told place refl in cc
-
-module _ {D E S : Type 0} (disks : DiskGhosts D) (sources : EntropyGhosts E) (sinks : SinkGhosts S) (inviter : Option MemberId)
-    (disk disk' : D) (entropy entropy' : E) (out out' : S) (ended : Ended) (random : List ℕ)
-    (grown : sources.told → sources.given entropy' ≡ sources.given entropy ++ random ∷ [])
-    (absent : disks.told → steps_of (disks.content disk) ≡ Ok [])
-    (run : disks.told → Throughout disks.clock disks.image_since disk disk' (StandsForSome [] (record { inviter = inviter_of inviter; random = random } ∷ []))) where
-  step : Step
-  step = record { inviter = inviter_of inviter; random = random }
-
-  one : sources.told → planned inviter (sources.given entropy) (sources.given entropy') ≡ record { inviter = inviter_of inviter; random = random } ∷ []
-  one told = plan_one inviter (sources.given entropy) (sources.given entropy') random (grown told)
-
-  some : disks.told → sources.told → (steps : List Step) → steps_of (disks.content disk) ≡ Ok steps → (bytes : List ℕ) → StandsForSome [] (record { inviter = inviter_of inviter; random = random } ∷ []) bytes
-      → StandsForSome steps (planned inviter (sources.given entropy) (sources.given entropy')) bytes
-  some told told' steps is bytes stands =
-      let none : steps ≡ [] = same_steps steps [] (sym is ∙ absent told) in
-      subst (λ (plan : List Step). StandsForSome steps plan bytes) (sym (one told'))
-      (subst (λ (ss : List Step). StandsForSome ss (record { inviter = inviter_of inviter; random = random } ∷ []) bytes) (sym none) stands)
-
-  whole : disks.told → sources.told → (steps : List Step) → steps_of (disks.content disk) ≡ Ok steps → (bytes : List ℕ) → steps_of bytes ≡ Ok (record { inviter = inviter_of inviter; random = random } ∷ [])
-      → steps_of bytes ≡ Ok (steps ++ planned inviter (sources.given entropy) (sources.given entropy'))
-  whole told told' steps is bytes stands =
-      let none : steps ≡ [] = same_steps steps [] (sym is ∙ absent told) in
-      stands ∙ (λ i. okay (sym none i ++ sym (one told') i))
-
-  moments_some : disks.told → sources.told → Throughout disks.clock disks.image_since disk disk'
-      (λ image. disks.image disk image ⊎ ((steps : List Step) → steps_of (disks.content disk) ≡ Ok steps → StandsForSome steps (planned inviter (sources.given entropy) (sources.given entropy')) image))
-  moments_some told told' = throughout_weaker disks.clock disks.image_since disk disk' (StandsForSome [] (record { inviter = inviter_of inviter; random = random } ∷ []))
-      (λ image. disks.image disk image ⊎ ((steps : List Step) → steps_of (disks.content disk) ≡ Ok steps → StandsForSome steps (planned inviter (sources.given entropy) (sources.given entropy')) image))
-      (λ image stands. inr (λ steps is. some told told' steps is image stands)) (run told)
-
-  other_never : disks.told → (place : ℕ) → steps_of (disks.content disk) ≡ Err place → disks.content disk' ≡ disks.content disk
-  other_never told place is = let clash : okay [] ≡ Err place = sym (absent told) ∙ is in cc
-
-  -- the step may be missing, and nothing was said of it
-  pub unsure : IsUnsure ended → out' ≡ out → (disks.told → (image : List ℕ) → disks.image disk' image → disks.image_since disk' (disks.clock disk) image)
-      → (disks.told → disks.image disk' (disks.content disk')) → Stored disks sources sinks inviter disk disk' entropy entropy' out out' ended
-  unsure kind still now shows = record {
-    asked = λ told. inr (random, grown told);
-    reads = λ told told' steps is. ⊎_elim (λ left. inr (kind, left)) (λ there. inl there)
-        (some told told' steps is (disks.content disk') ((run told).each (disks.content disk') (now told (disks.content disk') (shows told))));
-    accepted = λ told told' planned_some. absent told;
-    other = other_never;
-    moments = moments_some;
-    images = λ told told' steps is opened image here. some told told' steps is image ((run told).each image (now told image here));
-    durable = λ told told' acknowledged steps is image here. absurd (⊎_elim
-        (λ done. ⊎_elim (λ four. omega (arith, done, four)) (λ nine. omega (arith, done, nine)) kind)
-        (λ printed. longer (sinks.written out) (sym (ap sinks.written still) ∙ printed.1)) acknowledged);
-  }
-
-  -- the step is on the disk
-  pub stored : (disks.told → steps_of (disks.content disk') ≡ Ok (record { inviter = inviter_of inviter; random = random } ∷ [])) → (disks.told → LeavesOnly (disks.content disk') (disks.image disk'))
-      → Stored disks sources sinks inviter disk disk' entropy entropy' out out' ended
-  stored there settled = record {
-    asked = λ told. inr (random, grown told);
-    reads = λ told told' steps is. inl (whole told told' steps is (disks.content disk') (there told));
-    accepted = λ told told' planned_some. absent told;
-    other = other_never;
-    moments = moments_some;
-    images = λ told told' steps is opened image here. inr (whole told told' steps is image (ap steps_of (settled told image here) ∙ there told));
-    durable = λ told told' acknowledged steps is image here. whole told told' steps is image (ap steps_of (settled told image here) ∙ there told);
-  }
-
--- the journal was opened before
-pub after_opening : {D E S : Type 0} (disks : DiskGhosts D) (sources : EntropyGhosts E) (sinks : SinkGhosts S) (inviter : Option MemberId) (disk opened disk' : D) (entropy entropy' : E) (out out' : S) (ended : Ended)
-    → (disks.told → OnlyReads disks.content disks.image disks.clock disks.image_since disk opened) → Stored disks sources sinks inviter opened disk' entropy entropy' out out' ended
-    → Stored disks sources sinks inviter disk disk' entropy entropy' out out' ended
-after_opening disks sources sinks inviter disk opened disk' entropy entropy' out out' ended read later = record {
-  asked = later.asked;
-  reads = λ told told' steps is. later.reads told told' steps (ap steps_of (read told).stays ∙ is);
-  accepted = λ told told' some. sym (ap steps_of (read told).stays) ∙ later.accepted told told' some;
-  other = λ told place is. later.other told place (ap steps_of (read told).stays ∙ is) ∙ (read told).stays;
-  moments = λ told told'. throughout_weaker disks.clock disks.image_since disk disk'
-      (λ image. disks.image disk image ⊎ (disks.image opened image ⊎ ((steps : List Step) → steps_of (disks.content opened) ≡ Ok steps → StandsForSome steps (planned inviter (sources.given entropy) (sources.given entropy')) image)))
-      (λ image. disks.image disk image ⊎ ((steps : List Step) → steps_of (disks.content disk) ≡ Ok steps → StandsForSome steps (planned inviter (sources.given entropy) (sources.given entropy')) image))
-      (λ image either. ⊎_elim (λ old. inl old) (λ rest. ⊎_elim (λ now. inl ((read told).images image now)) (λ stands. inr (λ steps is. stands steps (ap steps_of (read told).stays ∙ is))) rest) either)
-      (throughout_on disks.clock disks.image_since disk opened disk' (disks.image disk)
-      (λ image. disks.image opened image ⊎ ((steps : List Step) → steps_of (disks.content opened) ≡ Ok steps → StandsForSome steps (planned inviter (sources.given entropy) (sources.given entropy')) image))
-      (read told).moments (later.moments told told'));
-  images = λ told told' steps is was image here. later.images told told' steps (ap steps_of (read told).stays ∙ is) was image here;
-  durable = λ told told' acknowledged steps is image here. later.durable told told' acknowledged steps (ap steps_of (read told).stays ∙ is) image here;
-}
-
--- what a journal without records stands for before and after an append
-pub stands_for_some : (entries : List Entry) (entry : Entry) (step : Step) (bytes : List ℕ) → entries ≡ [] → entry.bytes ≡ record_of step → length step.inviter ≡ 32 → length step.random ≡ 32
-    → IsBeforeOrAfter entries entry bytes → StandsForSome [] (step ∷ []) bytes
-stands_for_some entries entry first bytes none is inviter random (inl before) = inl (ap steps_among (before ∙ ap (λ (es : List Entry). let r : Result (List Entry) ℕ = Ok es in r) none))
-stands_for_some entries entry first bytes none is inviter random (inr after) = inr (one_stands entries entry first bytes none is inviter random after)
-  where
-    one_stands : (entries : List Entry) (entry : Entry) (step : Step) (bytes : List ℕ) → entries ≡ [] → entry.bytes ≡ record_of step → length step.inviter ≡ 32 → length step.random ≡ 32
-        → journal_of bytes ≡ Ok (entries ++ entry ∷ []) → steps_of bytes ≡ Ok (step ∷ [])
-    one_stands entries entry step bytes none is inviter random after =
-        steps_of_one bytes entry.place step inviter random
-        (after ∙ (λ i. let r : Result (List Entry) ℕ = Ok (none i ++ record { place = entry.place; bytes = is i } ∷ []) in r))
+pub nine : (ended : Ended) → ended ≡ ended_with 9 → IsUnsure ended
+nine ended is = inr (ap (λ (e : Ended). e.status) is)
 
 -- a fault of an append
 pub ends_unsure : (fault : JournalFault) (ended : Ended) → (fault ≡ DiskFault → ended ≡ ended_with 4) → (fault ≡ NoMemory → ended ≡ ended_with 9) → ((place : ℕ) → fault ≡ NotJournal place → ⊥) → IsUnsure ended
-ends_unsure DiskFault ended failed lacked never = inl (ap (λ (e : Ended). e.status) (failed refl))
-ends_unsure NoMemory ended failed lacked never = inr (ap (λ (e : Ended). e.status) (lacked refl))
+ends_unsure DiskFault ended failed lacked never = four ended (failed refl)
+ends_unsure NoMemory ended failed lacked never = nine ended (lacked refl)
 ends_unsure (NotJournal place) ended failed lacked never = absurd (never place refl)
+
+module _ {K P : Type 0} (kem : KemGhosts K P) where
+  -- the steps that were planned, by what was drawn
+  pub plan_none : (inviter : Option MemberId) (before after : List (List ℕ)) → after ≡ before → planned kem inviter before after ≡ []
+  plan_none inviter before after same =
+      ap (λ (seeds : List (List ℕ)). planned kem inviter before seeds) same
+      ∙ ap (λ (seeds : List (List ℕ)). map (init_step inviter) (filter (has_key kem) seeds)) (drop_all (length before) before (omega arith))
+
+  plan_of_one : (inviter : Option MemberId) (before after : List (List ℕ)) (random : List ℕ) → after ≡ before ++ random ∷ []
+      → planned kem inviter before after ≡ map (init_step inviter) (filter (has_key kem) (random ∷ []))
+  plan_of_one inviter before after random grown =
+      ap (λ (seeds : List (List ℕ)). planned kem inviter before seeds) grown
+      ∙ ap (λ (seeds : List (List ℕ)). map (init_step inviter) (filter (has_key kem) seeds)) (drop_at before (random ∷ []) (length before) refl)
+
+  pub plan_one : (inviter : Option MemberId) (before after : List (List ℕ)) (random : List ℕ) → after ≡ before ++ random ∷ [] → has_key kem random ≡ true
+      → planned kem inviter before after ≡ init_step inviter random ∷ []
+  plan_one inviter before after random grown usable = plan_of_one inviter before after random grown ∙ rw usable refl
+
+  pub plan_unusable : (inviter : Option MemberId) (before after : List (List ℕ)) (random : List ℕ) → after ≡ before ++ random ∷ [] → has_key kem random ≡ false
+      → planned kem inviter before after ≡ []
+  plan_unusable inviter before after random grown unusable = plan_of_one inviter before after random grown ∙ rw unusable refl
+
+  module _ {D : Type 0} (disks : DiskGhosts D) (plan : List Step) (disk disk' : D) (ended : Ended) where
+    -- nothing is planned, and the disk was only read
+    pub quiet : plan ≡ [] → OnlyReads disks.content disks.image disks.clock disks.image_since disk disk'
+        → ((steps : List Step) → steps_of kem (disks.content disk) ≡ Ok steps → (IsUnsure ended → ⊥) → LeavesOnly (disks.content disk) (disks.image disk'))
+        → Stored kem disks plan disk disk' ended
+    quiet none read settled = record {
+      reads = λ steps is. inl (ap (steps_of kem) read.stays ∙ is ∙ ap okay (sym (append-nil steps) ∙ ap (λ (ss : List Step). steps ++ ss) (sym none)));
+      accepted = λ some. absurd (some none);
+      moments = throughout_weaker disks.clock disks.image_since disk disk' (disks.image disk)
+          (λ image. disks.image disk image ⊎ ((steps : List Step) → steps_of kem (disks.content disk) ≡ Ok steps → StandsForSome kem steps plan image))
+          (λ image old. inl old) read.moments;
+      images = λ steps is opened image now. inl (ap (steps_of kem) (settled steps is (λ unsure. opened unsure none) image now) ∙ is);
+    }
+
+    pub quiet_lasts : plan ≡ [] → LeavesOnly (disks.content disk) (disks.image disk') → IsDurable kem disks plan disk disk'
+    quiet_lasts none settled steps is image now =
+        ap (steps_of kem) (settled image now) ∙ is ∙ ap okay (sym (append-nil steps) ∙ ap (λ (ss : List Step). steps ++ ss) (sym none))
+
+    -- the journal did not open
+    pub not_opened : {S : Type 0} (out out' : S) (fault : JournalFault) → (fault ≡ DiskFault → (ended ≡ ended_with 4) × (out' ≡ out)) → (fault ≡ NoMemory → (ended ≡ ended_with 9) × (out' ≡ out))
+        → ((place : ℕ) → fault ≡ NotJournal place → steps_of kem (disks.content disk) ≡ Err place) → plan ≡ []
+        → OnlyReads disks.content disks.image disks.clock disks.image_since disk disk' → Stored kem disks plan disk disk' ended
+    not_opened out out' fault failed lacked other none read = quiet none read (λ steps is sure. absurd (never fault failed lacked other steps is sure))
+      where
+        never : (fault : JournalFault) → (fault ≡ DiskFault → (ended ≡ ended_with 4) × (out' ≡ out)) → (fault ≡ NoMemory → (ended ≡ ended_with 9) × (out' ≡ out))
+            → ((place : ℕ) → fault ≡ NotJournal place → steps_of kem (disks.content disk) ≡ Err place)
+            → (steps : List Step) → steps_of kem (disks.content disk) ≡ Ok steps → (IsUnsure ended → ⊥) → ⊥
+        never DiskFault failed lacked other steps is sure = sure (four ended (failed refl).0)
+        never NoMemory failed lacked other steps is sure = sure (nine ended (lacked refl).0)
+        never (NotJournal place) failed lacked other steps is sure = let clash : okay steps ≡ Err place = sym is ∙ other place refl in cc
+
+    pub not_opened_lasts : {S : Type 0} (sinks : SinkGhosts S) (out out' : S) (fault : JournalFault) → (fault ≡ DiskFault → (ended ≡ ended_with 4) × (out' ≡ out)) → (fault ≡ NoMemory → (ended ≡ ended_with 9) × (out' ≡ out))
+        → ((place : ℕ) → fault ≡ NotJournal place → steps_of kem (disks.content disk) ≡ Err place) → IsAcknowledged sinks out out' ended → IsDurable kem disks plan disk disk'
+    not_opened_lasts sinks out out' fault failed lacked other acknowledged steps is image now = absurd (never fault failed lacked other)
+      where
+        never : (fault : JournalFault) → (fault ≡ DiskFault → (ended ≡ ended_with 4) × (out' ≡ out)) → (fault ≡ NoMemory → (ended ≡ ended_with 9) × (out' ≡ out))
+            → ((place : ℕ) → fault ≡ NotJournal place → steps_of kem (disks.content disk) ≡ Err place) → ⊥
+        never DiskFault failed lacked other = not_acknowledged sinks out out' ended (four ended (failed refl).0) (failed refl).1 acknowledged
+        never NoMemory failed lacked other = not_acknowledged sinks out out' ended (nine ended (lacked refl).0) (lacked refl).1 acknowledged
+        never (NotJournal place) failed lacked other = let clash : okay steps ≡ Err place = sym is ∙ other place refl in cc
+
+    -- there is no member, the disk was only read, and what was planned is missing
+    pub untouched : steps_of kem (disks.content disk) ≡ Ok [] → IsUnsure ended → OnlyReads disks.content disks.image disks.clock disks.image_since disk disk'
+        → LeavesOnly (disks.content disk) (disks.image disk') → Stored kem disks plan disk disk' ended
+    untouched absent kind read settled = record {
+      reads = λ steps is. inr (kind, ap (steps_of kem) read.stays ∙ is);
+      accepted = λ some. absent;
+      moments = throughout_weaker disks.clock disks.image_since disk disk' (disks.image disk)
+          (λ image. disks.image disk image ⊎ ((steps : List Step) → steps_of kem (disks.content disk) ≡ Ok steps → StandsForSome kem steps plan image))
+          (λ image old. inl old) read.moments;
+      images = λ steps is opened image now. inl (ap (steps_of kem) (settled image now) ∙ is);
+    }
+
+    module _ (step : Step) (one : plan ≡ step ∷ []) (absent : steps_of kem (disks.content disk) ≡ Ok [])
+        (run : Throughout disks.clock disks.image_since disk disk' (StandsForSome kem [] (step ∷ []))) where
+      some : (steps : List Step) → steps_of kem (disks.content disk) ≡ Ok steps → (bytes : List ℕ) → StandsForSome kem [] (step ∷ []) bytes → StandsForSome kem steps plan bytes
+      some steps is bytes stands =
+          subst (λ (p : List Step). StandsForSome kem steps p bytes) (sym one)
+          (subst (λ (ss : List Step). StandsForSome kem ss (step ∷ []) bytes) (sym (same_steps steps [] (sym is ∙ absent))) stands)
+
+      whole : (steps : List Step) → steps_of kem (disks.content disk) ≡ Ok steps → (bytes : List ℕ) → steps_of kem bytes ≡ Ok (step ∷ []) → steps_of kem bytes ≡ Ok (steps ++ plan)
+      whole steps is bytes stands =
+          let none : steps ≡ [] = same_steps steps [] (sym is ∙ absent) in
+          stands ∙ (λ i. okay (sym none i ++ sym one i))
+
+      moments_some : Throughout disks.clock disks.image_since disk disk'
+          (λ image. disks.image disk image ⊎ ((steps : List Step) → steps_of kem (disks.content disk) ≡ Ok steps → StandsForSome kem steps plan image))
+      moments_some = throughout_weaker disks.clock disks.image_since disk disk' (StandsForSome kem [] (step ∷ []))
+          (λ image. disks.image disk image ⊎ ((steps : List Step) → steps_of kem (disks.content disk) ≡ Ok steps → StandsForSome kem steps plan image))
+          (λ image stands. inr (λ steps is. some steps is image stands)) run
+
+      -- the step may be missing
+      pub unsure : IsUnsure ended → ((image : List ℕ) → disks.image disk' image → disks.image_since disk' (disks.clock disk) image) → disks.image disk' (disks.content disk')
+          → Stored kem disks plan disk disk' ended
+      unsure kind now shows = record {
+        reads = λ steps is. ⊎_elim (λ left. inr (kind, left)) (λ there. inl there) (some steps is (disks.content disk') (run.each (disks.content disk') (now (disks.content disk') shows)));
+        accepted = λ planned_some. absent;
+        moments = moments_some;
+        images = λ steps is opened image here. some steps is image (run.each image (now image here));
+      }
+
+      -- the step is on the disk
+      pub stored : steps_of kem (disks.content disk') ≡ Ok (step ∷ []) → LeavesOnly (disks.content disk') (disks.image disk') → Stored kem disks plan disk disk' ended
+      stored there settled = record {
+        reads = λ steps is. inl (whole steps is (disks.content disk') there);
+        accepted = λ planned_some. absent;
+        moments = moments_some;
+        images = λ steps is opened image here. inr (whole steps is image (ap (steps_of kem) (settled image here) ∙ there));
+      }
+
+      pub lasts : steps_of kem (disks.content disk') ≡ Ok (step ∷ []) → LeavesOnly (disks.content disk') (disks.image disk') → IsDurable kem disks plan disk disk'
+      lasts there settled steps is image here = whole steps is image (ap (steps_of kem) (settled image here) ∙ there)
+
+  -- the journal was opened before
+  pub after_opening : {D : Type 0} (disks : DiskGhosts D) (plan : List Step) (disk opened disk' : D) (ended : Ended) → OnlyReads disks.content disks.image disks.clock disks.image_since disk opened
+      → Stored kem disks plan opened disk' ended → Stored kem disks plan disk disk' ended
+  after_opening disks plan disk opened disk' ended read later = record {
+    reads = λ steps is. later.reads steps (ap (steps_of kem) read.stays ∙ is);
+    accepted = λ some. sym (ap (steps_of kem) read.stays) ∙ later.accepted some;
+    moments = throughout_weaker disks.clock disks.image_since disk disk'
+        (λ image. disks.image disk image ⊎ (disks.image opened image ⊎ ((steps : List Step) → steps_of kem (disks.content opened) ≡ Ok steps → StandsForSome kem steps plan image)))
+        (λ image. disks.image disk image ⊎ ((steps : List Step) → steps_of kem (disks.content disk) ≡ Ok steps → StandsForSome kem steps plan image))
+        (λ image either. ⊎_elim (λ old. inl old) (λ rest. ⊎_elim (λ now. inl (read.images image now)) (λ stands. inr (λ steps is. stands steps (ap (steps_of kem) read.stays ∙ is))) rest) either)
+        (throughout_on disks.clock disks.image_since disk opened disk' (disks.image disk)
+        (λ image. disks.image opened image ⊎ ((steps : List Step) → steps_of kem (disks.content opened) ≡ Ok steps → StandsForSome kem steps plan image))
+        read.moments later.moments);
+    images = λ steps is was image here. later.images steps (ap (steps_of kem) read.stays ∙ is) was image here;
+  }
+
+  pub lasts_after_opening : {D : Type 0} (disks : DiskGhosts D) (plan : List Step) (disk opened disk' : D) → disks.content opened ≡ disks.content disk
+      → IsDurable kem disks plan opened disk' → IsDurable kem disks plan disk disk'
+  lasts_after_opening disks plan disk opened disk' stays later steps is image here = later steps (ap (steps_of kem) stays ∙ is) image here
+
+  -- what a journal without records stands for before and after an append
+  pub stands_for_some : (entries : List Entry) (entry : Entry) (step : Step) (bytes : List ℕ) → entries ≡ [] → entry.bytes ≡ record_of kem step → length step.inviter ≡ 32 → length step.random ≡ 32
+      → has_key kem step.random ≡ true → IsBeforeOrAfter entries entry bytes → StandsForSome kem [] (step ∷ []) bytes
+  stands_for_some entries entry step bytes none is inviter random usable (inl before) =
+      inl (ap (steps_among kem) (before ∙ ap (λ (es : List Entry). let r : Result (List Entry) ℕ = Ok es in r) none))
+  stands_for_some entries entry step bytes none is inviter random usable (inr after) =
+      inr (steps_of_one kem bytes entry.place step inviter random usable
+      (after ∙ (λ i. let r : Result (List Entry) ℕ = Ok (none i ++ record { place = entry.place; bytes = is i } ∷ []) in r)))
 
 pub no_entries : {D : Type 0} {disks : DiskGhosts D} (content : D → List ℕ) (journal : Journal D disks) → length (places journal) ≡ 0 → entries content journal ≡ []
 no_entries content journal none = none_of_length (entries content journal)
     (sym (ap length (places-entries content journal) ∙ length-map (entries content journal) (λ (entry : Entry). entry.place)) ∙ none)
 
--- what a crash leaves during an append to a journal without records
-pub moments_of : {D : Type 0} {disks : DiskGhosts D} (journal : Journal D disks) (disk' : D) (bytes : List ℕ) (step : Step) → length (places journal) ≡ 0 → bytes ≡ record_of step
-    → length step.inviter ≡ 32 → length step.random ≡ 32
-    → Throughout disks.clock disks.image_since (disk_of journal) disk' (IsBeforeOrAfter (entries disks.content journal) (record { place = next_place journal; bytes = bytes }))
-    → Throughout disks.clock disks.image_since (disk_of journal) disk' (StandsForSome [] (step ∷ []))
-moments_of {disks = disks} journal disk' bytes step none is inviter random run =
-    throughout_weaker disks.clock disks.image_since (disk_of journal) disk' (IsBeforeOrAfter (entries disks.content journal) (record { place = next_place journal; bytes = bytes })) (StandsForSome [] (step ∷ []))
-    (λ image either. stands_for_some (entries disks.content journal) (record { place = next_place journal; bytes = bytes }) step image (no_entries disks.content journal none) is inviter random either) run
+module _ {K P : Type 0} (kem : KemGhosts K P) {D : Type 0} {disks : DiskGhosts D} (journal : Journal D disks) (disk' : D) (bytes : List ℕ) (step : Step) (none : length (places journal) ≡ 0)
+    (is : bytes ≡ record_of kem step) (inviter : length step.inviter ≡ 32) (random : length step.random ≡ 32) (usable : has_key kem step.random ≡ true) where
+  -- what a crash leaves during an append to a journal without records
+  pub moments_of : Throughout disks.clock disks.image_since (disk_of journal) disk' (IsBeforeOrAfter (entries disks.content journal) (record { place = next_place journal; bytes = bytes }))
+      → Throughout disks.clock disks.image_since (disk_of journal) disk' (StandsForSome kem [] (step ∷ []))
+  moments_of run =
+      throughout_weaker disks.clock disks.image_since (disk_of journal) disk' (IsBeforeOrAfter (entries disks.content journal) (record { place = next_place journal; bytes = bytes })) (StandsForSome kem [] (step ∷ []))
+      (λ image either. stands_for_some kem (entries disks.content journal) (record { place = next_place journal; bytes = bytes }) step image (no_entries disks.content journal none) is inviter random usable either) run
 
--- an append to a journal without records
-pub one_appended : {D : Type 0} {disks : DiskGhosts D} (journal journal' : Journal D disks) (disk' : D) (bytes : List ℕ) (step : Step) → length (places journal) ≡ 0 → bytes ≡ record_of step
-    → length step.inviter ≡ 32 → length step.random ≡ 32 → disk' ≡ disk_of journal'
-    → entries disks.content journal' ≡ entries disks.content journal ++ record { place = next_place journal; bytes = bytes } ∷ []
-    → journal_of (disks.content (disk_of journal')) ≡ Ok (entries disks.content journal') → steps_of (disks.content disk') ≡ Ok (step ∷ [])
-one_appended {D = D} {disks = disks} journal journal' disk' bytes step none is inviter random same more stands =
-    ap (λ (d : D). steps_of (disks.content d)) same
-    ∙ steps_of_one (disks.content (disk_of journal')) (next_place journal) step inviter random
-    (stands ∙ ap (λ (es : List Entry). let r : Result (List Entry) ℕ = Ok es in r) (more
-    ∙ (λ i. no_entries disks.content journal none i ++ record { place = next_place journal; bytes = is i } ∷ [])))
+  -- an append to a journal without records
+  pub one_appended : (journal' : Journal D disks) → disk' ≡ disk_of journal' → entries disks.content journal' ≡ entries disks.content journal ++ record { place = next_place journal; bytes = bytes } ∷ []
+      → journal_of (disks.content (disk_of journal')) ≡ Ok (entries disks.content journal') → steps_of kem (disks.content disk') ≡ Ok (step ∷ [])
+  one_appended journal' same more stands =
+      ap (λ (d : D). steps_of kem (disks.content d)) same
+      ∙ steps_of_one kem (disks.content (disk_of journal')) (next_place journal) step inviter random usable
+      (stands ∙ ap (λ (es : List Entry). let r : Result (List Entry) ℕ = Ok es in r) (more
+      ∙ (λ i. no_entries disks.content journal none i ++ record { place = next_place journal; bytes = is i } ∷ [])))
+
+-- The step of an `init` with a usable key, appended to a journal without records.
+module _ {K P : Type 0} (kem : KemGhosts K P) {D : Type 0} {disks : DiskGhosts D} (journal : Journal D disks) (disk' : D) (ended : Ended) (inviter : Option MemberId) (id random bytes : List ℕ)
+    (before after : List (List ℕ)) (none : length (places journal) ≡ 0) (names : id ≡ inviter_of inviter) (is : bytes ≡ record_of kem (record { inviter = id; random = random }))
+    (id_size : length id ≡ 32) (random_size : length random ≡ 32) (usable : has_key kem random ≡ true) (absent : steps_of kem (disks.content (disk_of journal)) ≡ Ok [])
+    (grown : after ≡ before ++ random ∷ [])
+    (run : Throughout disks.clock disks.image_since (disk_of journal) disk' (IsBeforeOrAfter (entries disks.content journal) (record { place = next_place journal; bytes = bytes }))) where
+  one : planned kem inviter before after ≡ record { inviter = id; random = random } ∷ []
+  one = plan_one kem inviter before after random grown usable ∙ ap (λ (i : List ℕ). let step : Step = record { inviter = i; random = random } in step ∷ []) (sym names)
+
+  moments : Throughout disks.clock disks.image_since (disk_of journal) disk' (StandsForSome kem [] (record { inviter = id; random = random } ∷ []))
+  moments = moments_of kem journal disk' bytes (record { inviter = id; random = random }) none is id_size random_size usable run
+
+  pub append_failed : IsUnsure ended → ((image : List ℕ) → disks.image disk' image → disks.image_since disk' (disks.clock (disk_of journal)) image) → disks.image disk' (disks.content disk')
+      → Stored kem disks (planned kem inviter before after) (disk_of journal) disk' ended
+  append_failed = unsure kem disks (planned kem inviter before after) (disk_of journal) disk' ended (record { inviter = id; random = random }) one absent moments
+
+  module _ (journal' : Journal D disks) (same : disk' ≡ disk_of journal') (more : entries disks.content journal' ≡ entries disks.content journal ++ record { place = next_place journal; bytes = bytes } ∷ [])
+      (stands : journal_of (disks.content (disk_of journal')) ≡ Ok (entries disks.content journal')) where
+    pub there : steps_of kem (disks.content disk') ≡ Ok (record { inviter = id; random = random } ∷ [])
+    there = one_appended kem journal disk' bytes (record { inviter = id; random = random }) none is id_size random_size usable journal' same more stands
+
+    pub appended : LeavesOnly (disks.content disk') (disks.image disk') → Stored kem disks (planned kem inviter before after) (disk_of journal) disk' ended
+    appended = stored kem disks (planned kem inviter before after) (disk_of journal) disk' ended (record { inviter = id; random = random }) one absent moments there
+
+    pub append_lasts : LeavesOnly (disks.content disk') (disks.image disk') → IsDurable kem disks (planned kem inviter before after) (disk_of journal) disk'
+    append_lasts = lasts kem disks (planned kem inviter before after) (disk_of journal) disk' ended (record { inviter = id; random = random }) one absent moments there

@@ -1,5 +1,8 @@
+pub mod Card
 pub mod Ends
+pub mod Init
 pub mod Lines
+pub mod Opening
 pub mod Run
 pub mod Says
 pub mod Steps

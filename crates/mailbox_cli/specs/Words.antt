@@ -3,7 +3,7 @@ use Rattle.std.specs.Prelude.{ℕ, ◌+◌, ◌-◌, ◌*◌, ◌==◌, ◌&&◌
 use Rattle.std.specs.Cmp.Lexicographic.{pointwise}
 use Rattle.std.specs.Option.{option_and_then, option_map}
 use Rattle.mailbox_cli.specs.declared.command.Command.{Command}
-use Rattle.mailbox_cli.specs.declared.command.Command.TheVariants.{Init}
+use Rattle.mailbox_cli.specs.declared.command.Command.TheVariants.{Init, Card}
 
 abbrev pub is_word : List ℕ → List ℕ → Bool
 is_word word other = pointwise nat_eq word other
@@ -48,6 +48,18 @@ init_of [] = Some (Init None)
 init_of (id ∷ []) = option_map (λ bytes. Init (Some (record { 0 = record { 0 = bytes } }))) (id_of id)
 init_of (first ∷ second ∷ rest) = None
 
+-- a command that takes no value
+abbrev pub without_values : Command → List (List ℕ) → Option Command
+without_values command [] = Some command
+without_values command (value ∷ values) = None
+
+-- the command of a first word, with the values behind it
+abbrev pub command_with : List ℕ → List (List ℕ) → Option Command
+command_with word values =
+    if is_word word (codes "init")
+    then init_of values
+    else (if is_word word (codes "card") then without_values Card values else None)
+
 abbrev pub command_of : List (List ℕ) → Option Command
 command_of [] = None
-command_of (word ∷ words) = if is_word word (codes "init") then option_and_then init_of (values_of words) else None
+command_of (word ∷ words) = option_and_then (command_with word) (values_of words)

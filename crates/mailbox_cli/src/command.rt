@@ -1,5 +1,5 @@
 ghost use Rattle.std.specs.Prelude.{◌≡◌, ◌++◌, ◌+◌, ◌*◌, ◌<◌, ◌∷◌, List, ℕ, [], length, Option, Some, None, IfSome, IfNone, MatchOption, nat_eq};
-ghost use Rattle.mailbox_cli.specs.Words.{command_of, init_of, values_of, is_option, id_of, byte_of, digit_of};
+ghost use Rattle.mailbox_cli.specs.Words.{command_of, init_of, without_values, values_of, is_option, id_of, byte_of, digit_of};
 
 use group_fields::{Digest, MemberId, Text};
 
@@ -8,6 +8,8 @@ use group_fields::{Digest, MemberId, Text};
 pub enum Command {
     /// Makes the member. Its inviter is the one member that can add it to a group; without one nobody can.
     Init(Option<MemberId>),
+    /// Puts the member's card into the mail folder.
+    Card,
 }
 
 /// The command that the words spell, by the grammar of the words.
@@ -15,11 +17,25 @@ pub fn read_command(words: &[Text]) -> Option<Command>
     ensures { result ≡ command_of words.now }
 {
     let (first, rest) = words.split_first()?;
-    if first.as_str() != "init" {
-        return None;
-    }
     let (before, after) = read_values(rest)?;
-    read_init(before, after)
+    match first.as_str() {
+        "init" => read_init(before, after),
+        "card" => without_values(Command::Card, before, after),
+        _ => None,
+    }
+}
+
+/// A command that takes no value, with the values in two parts.
+fn without_values(command: Command, before: &[Text], after: &[Text]) -> Option<Command>
+    ensures { result ≡ without_values command (before.now ++ after.now) }
+{
+    match before {
+        [] => match after {
+            [] => Some(command),
+            [_, ..] => None,
+        },
+        [_, ..] => None,
+    }
 }
 
 /// `init` with the values in two parts.

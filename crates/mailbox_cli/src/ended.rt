@@ -5,8 +5,12 @@ ghost use Rattle.std.specs.Prelude.{◌≡◌, ℕ, Some};
 pub enum Refusal {
     /// The words are not of the grammar.
     Words,
+    /// There is no member.
+    NotMade,
     /// There is a member already.
     AlreadyMade,
+    /// The random bytes give no usable key.
+    NoUsableKey,
     /// The bytes of the disk are no journal at this place.
     NotJournal(u64),
 }
@@ -29,6 +33,11 @@ impl Ended {
         status: 4,
         refusal: None,
     };
+    /// The mail folder failed.
+    pub(crate) const POST_FAULT: Ended = Ended {
+        status: 5,
+        refusal: None,
+    };
     /// The source of random bytes failed.
     pub(crate) const ENTROPY_FAULT: Ended = Ended {
         status: 6,
@@ -45,14 +54,25 @@ impl Ended {
         refusal: None,
     };
 
+    /// The words spell no command.
     pub(crate) const WORDS: Ended = Ended {
         status: 2,
         refusal: Some(Refusal::Words),
     };
-
+    /// There is no member.
+    pub(crate) const NOT_MADE: Ended = Ended {
+        status: 3,
+        refusal: Some(Refusal::NotMade),
+    };
+    /// There is a member already.
     pub(crate) const ALREADY_MADE: Ended = Ended {
         status: 3,
         refusal: Some(Refusal::AlreadyMade),
+    };
+    /// The random bytes give no usable key.
+    pub(crate) const NO_USABLE_KEY: Ended = Ended {
+        status: 3,
+        refusal: Some(Refusal::NoUsableKey),
     };
 
     /// The bytes of the disk are no journal at this place.

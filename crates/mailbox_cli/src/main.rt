@@ -1,8 +1,11 @@
 //! One member of one group: command words in, a journal and lines out.
 #![tactic(auto)]
 
+mod card;
 mod command;
 mod ended;
+mod ending;
+mod init;
 mod run;
 mod step;
 #[cfg(test)]

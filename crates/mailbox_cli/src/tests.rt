@@ -3,7 +3,7 @@ ghost use Rattle.std.specs.Prelude.{◌≤◌};
 use crate::{Command, Ended, Refusal, read_command, run};
 use disk_trait::{Disk, MemDisk};
 use group_fields::{Bytes, Digest, MemberId, Text};
-use mail_trait::{MemEntropy, MemPost, MemSink};
+use mail_trait::{MemEntropy, MemPost, MemSink, Post};
 use std::alloc::Global;
 use std::process::Abort;
 use std::test::Fail;
@@ -40,6 +40,38 @@ fn run_over(alloc: Global, line: &str, disk: MemDisk) -> Result<(MemDisk, Ended,
         &mut out,
     );
     Ok((disk, ended, Bytes::copy_of(alloc, out.bytes())?))
+}
+
+/// The end of a run of `card` over a disk, with a mail folder and an output whose calls of these numbers fail: the disk
+/// afterwards, the mail folder, the answer, and what was written. No random bytes are to be had.
+fn put_card(
+    alloc: Global,
+    disk: MemDisk,
+    post_failing: &[u32],
+    out_failing: &[u32],
+) -> Result<(MemDisk, MemPost, Ended, Bytes), Fail> {
+    let words = words_of(alloc, "card")?;
+    let mut post = MemPost::new(alloc, post_failing)?;
+    let mut entropy = MemEntropy::new(alloc, &[], &[])?;
+    let mut out = MemSink::new(alloc, out_failing)?;
+    let (disk, ended) = run(
+        alloc,
+        words.as_slice(),
+        disk,
+        &mut post,
+        &mut entropy,
+        &mut out,
+    );
+    let line = Bytes::copy_of(alloc, out.bytes())?;
+    Ok((disk, post, ended, line))
+}
+
+/// The file of a name in a mail folder, or no bytes where there is none.
+fn file_of(alloc: Global, post: &mut MemPost, name: &str) -> Result<Bytes, Fail> {
+    match post.read(name, 2000)? {
+        Some(bytes) => Ok(bytes),
+        None => Ok(Bytes::copy_of(alloc, b"")?),
+    }
 }
 
 /// The bytes of a made member: the inviter's id, or zeros, and the seed.
@@ -83,6 +115,11 @@ fn reads_the_words(rt: HostRuntime) -> Result<(), Fail> {
             "init 1f1f1f1f1f1f1f1f1f1f1f1f1f1f1f1f1f1f1f1f1f1f1f1f1f1f1f1f1f1f1f1f 00",
             None,
         ),
+        ("card", Some(Command::Card)),
+        ("card --", Some(Command::Card)),
+        ("card x", None),
+        ("card -- x", None),
+        ("card -x", None),
         ("show", None),
     ];
     for (line, want) in cases {
@@ -223,6 +260,65 @@ fn a_crash_leaves_a_member_or_none(rt: HostRuntime) -> Result<(), Fail> {
                 assert_eq!(rt; second, after, "image {image} after {honest} calls");
             }
         }
+    }
+    Ok(())
+}
+
+/// The id of the card of a member without inviter whose random bytes are 32 times 7.
+const CARD_ID: &str = "77195ebece4c8a96eb0a442fc7a7fab0d3fa5e9b3724fbed34f572c5662d0eb9";
+
+#[test]
+fn puts_the_card(rt: HostRuntime) -> Result<(), Fail> {
+    let alloc = rt.alloc();
+    let made = made_bytes(0);
+    let want = format!(in alloc; "card {CARD_ID}\n")?;
+    let name = format!(in alloc; "{CARD_ID}.card")?;
+    let disk = disk_with(alloc, &made)?;
+    let (disk, mut post, ended, line) = put_card(alloc, disk, &[], &[])?;
+    assert_eq!(rt; ended, Ended::DONE);
+    assert_eq!(rt; line.as_slice(), want.as_bytes());
+    assert_eq!(rt; disk.bytes(), made.as_slice());
+    assert_eq!(rt; post.list()?.as_slice().len(), 1);
+    let first = file_of(alloc, &mut post, name.as_str())?;
+    assert_eq!(rt; first.len(), 1249);
+
+    // The same again.
+    let (_, mut post, ended, line) = put_card(alloc, disk, &[], &[])?;
+    assert_eq!(rt; ended, Ended::DONE);
+    assert_eq!(rt; line.as_slice(), want.as_bytes());
+    let second = file_of(alloc, &mut post, name.as_str())?;
+    assert_eq!(rt; first.as_slice(), second.as_slice());
+    Ok(())
+}
+
+#[test]
+fn puts_no_card_without_a_member(rt: HostRuntime) -> Result<(), Fail> {
+    let (disk, mut post, ended, line) = put_card(
+        rt.alloc(),
+        MemDisk::honest(rt.alloc()),
+        &[],
+        &[],
+    )?;
+    assert_eq!(rt; ended.status, 3);
+    assert_eq!(rt; ended.refusal, Some(Refusal::NotMade));
+    assert_eq!(rt; line.as_slice(), b"refused not-made\n".as_slice());
+    assert_eq!(rt; disk.bytes(), b"".as_slice());
+    assert_eq!(rt; post.list()?.as_slice().len(), 0);
+    Ok(())
+}
+
+#[test]
+fn names_the_device_that_failed_for_a_card(rt: HostRuntime) -> Result<(), Fail> {
+    // the failing call of the mail folder and that of the output, the status, and the files left
+    let cases = [(1, 9, 5, 0), (9, 1, 7, 1)];
+    for (folder, output, status, left) in cases {
+        let disk = disk_with(rt.alloc(), &made_bytes(0))?;
+        let (disk, mut post, ended, line) = put_card(rt.alloc(), disk, &[folder], &[output])?;
+        assert_eq!(rt; ended.status, status);
+        assert_eq!(rt; ended.refusal, None);
+        assert_eq!(rt; line.as_slice(), b"".as_slice());
+        assert_eq!(rt; disk.bytes(), made_bytes(0).as_slice());
+        assert_eq!(rt; post.list()?.as_slice().len(), left);
     }
     Ok(())
 }

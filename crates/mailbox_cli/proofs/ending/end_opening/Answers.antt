@@ -3,7 +3,7 @@ use Rattle.mailbox_cli.specs.Ends.{not_journal_at}
 use Rattle.mailbox_cli.specs.Lines.{not_journal_line}
 use Rattle.mailbox_cli.specs.Says.{Says}
 use Rattle.mailbox_cli.specs.declared.ended.Ended.{Ended}
-use Rattle.mailbox_cli.proofs.run.end_opening.Goals as goal
+use Rattle.mailbox_cli.proofs.ending.end_opening.Goals as goal
 
 pub returns-in-Ok-clause-not_journal : goal.returns-in-Ok-clause-not_journal
 returns-in-Ok-clause-not_journal g c place is =
