@@ -4,3 +4,6 @@
 mod identity;
 
 pub use identity::Identity;
+
+#[cfg(test)]
+mod tests;
