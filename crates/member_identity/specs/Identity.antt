@@ -1,4 +1,5 @@
--- What a member is by the step that made it: its signing tree, its key pair and its card.
+-- What a member is by the step that made it: its key pair, its signing tree and its card. Each secret of it is derived from
+-- the random bytes under a label of its own.
 use Rattle.std.specs.Prelude.{◌≡◌, ℕ, IsTrue, ◌%◌, ◌^◌, ◌==◌, ◌&&◌, ◌||◌, List, [], take, codes, Option}
 use Rattle.std.specs.Option.{option_map}
 use Rattle.rand_chacha.specs.ChaCha.{key_of, word_at}
@@ -13,11 +14,13 @@ pub record Origin : Type 0 where
   pub inviter : List ℕ
   pub random : List ℕ
 
--- the words that the key pair is drawn from: those of the derived seed (RFC 8439, section 2.3), which repeat after 2 ^ 68
+-- word n of those that the key pair is drawn from: ChaCha with 10 double rounds (RFC 8439, section 2.3) under the derived
+-- key, stream 0, from its start; the words repeat after 2 ^ 68
 unfoldable pub pair_words : List ℕ → ℕ → ℕ
 pair_words random n = word_at 10 (key_of (kdf random (codes "kem") [])) 0 (n % 2 ^ 68)
 
--- the signing tree of a height
+-- the LMS tree of a height that the member signs with (RFC 8554, section 5): I is the first 16 bytes of a derived key, and
+-- SEED is another derived key
 abbrev pub signing_tree : ℕ → List ℕ → LmsTree
 signing_tree height random =
     record {
@@ -27,11 +30,11 @@ signing_tree height random =
     }
 
 module _ {K P : Type 0} (kem : Ghosts K P) where
-  -- the secret key, where the words give a usable one
+  -- the secret key of the member's pair, where the words give a usable one
   unfoldable pub secret_from : List ℕ → Option (List ℕ)
   secret_from random = kem.made (pair_words random)
 
-  -- the card of a member with this secret key
+  -- the card of a member with this secret key; its LMS public key is that of its tree of the height
   abbrev pub card_with : ℕ → Origin → List ℕ → Card
   card_with height origin secret =
       record {
@@ -41,7 +44,7 @@ module _ {K P : Type 0} (kem : Ghosts K P) where
         kem_public = kem.public_in secret;
       }
 
-  -- the card, where the words give a usable key
+  -- the member's card, where the words give a usable key
   unfoldable pub card_of : ℕ → Origin → Option Card
   card_of height origin = option_map (card_with height origin) (secret_from origin.random)
 
@@ -49,7 +52,8 @@ module _ {K P : Type 0} (kem : Ghosts K P) where
   unfoldable pub card_bytes : ℕ → Origin → Option (List ℕ)
   card_bytes height origin = option_map spelling (card_of height origin)
 
-  -- The members of a set and a height have cards: height 10 with set 1, height 5 or 10 with set 2.
+  -- The members of an encapsulation have cards at a height: it is set 1 with height 10, or set 2 with height 5 or 10, and its
+  -- public keys have the size that a card of the set has room for.
   pub record HasCards (height : ℕ) : Type 0 where
     pub is_set : IsTrue ((kem.SET == 1) || (kem.SET == 2))
     pub is_height : IsTrue ((height == 10) || ((kem.SET == 2) && (height == 5)))

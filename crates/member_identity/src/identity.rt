@@ -9,7 +9,8 @@ use lms_sign::Tree;
 use std::alloc::Global;
 use std::marker::Model;
 
-/// A member's inviter, its random bytes and its key pair.
+/// A member as the step that made it: the id of its inviter, 32 zero bytes for nobody, its 32 random bytes, and the key pair
+/// of the key encapsulation that these give. Contracts see the inviter and the random bytes, which all else follows from.
 #[derive(Drop)]
 pub struct Identity<K: Kem> {
     inviter: MemberId,
@@ -29,8 +30,11 @@ impl<K: Kem> Model for Identity<K> {
 }
 
 impl<K: Kem> Identity<K> {
-    /// The member that an inviter, 32 zero bytes for nobody, and 32 random bytes make. `NoUsableKey` exactly where the words
-    /// of the random bytes give no usable key.
+    /// The member that an inviter, 32 zero bytes for nobody, and 32 random bytes make. Its key pair is drawn from the words of
+    /// ChaCha with 20 rounds (RFC 8439, section 2.3) under the key that the random bytes give under the label "kem".
+    ///
+    /// `NoUsableKey` only where these words give no usable key, so that no call with these random bytes makes a member.
+    /// `Memory` where an allocation was refused.
     pub fn make(
         alloc: Global,
         inviter: MemberId,
@@ -49,7 +53,10 @@ impl<K: Kem> Identity<K> {
         })
     }
 
-    /// The bytes of the member's card, whose LMS public key is that of a tree of this height.
+    /// The bytes of the member's card. Its LMS public key (RFC 8554, section 5.3) is that of the member's tree of a height, which
+    /// has 2 ^ height leaves: a height of 10 with set 1, of 5 or 10 with set 2. Each call makes the whole tree anew.
+    ///
+    /// `Memory` where an allocation was refused.
     pub fn card(&self, alloc: Global, height: u32) -> Result<Bytes, Memory>
         requires { HasCards ⟦<K as Kem>⟧ height }
         ensures { IfOk result (λ bytes. card_bytes ⟦<K as Kem>⟧ height self.now ≡ Some bytes) }
@@ -64,7 +71,7 @@ impl<K: Kem> Identity<K> {
     }
 }
 
-/// The LMS public key of the member's tree of a height.
+/// The LMS public key of the tree of a height that a member with these random bytes signs with.
 fn lms_public(alloc: Global, height: u32, random: &[u8; 32]) -> Result<[u8; 56], Memory>
     requires { IsHeight height }
     ensures { IfOk result (λ public. public ≡ lms_public (signing_tree height random.now)) }
@@ -75,7 +82,7 @@ fn lms_public(alloc: Global, height: u32, random: &[u8; 32]) -> Result<[u8; 56],
     Ok(Tree::make(alloc, height, id, &seed)?.public())
 }
 
-/// The public key of a pair.
+/// The public key of a pair, in memory of its own.
 fn kem_public<K: Kem>(alloc: Global, pair: &K::Pair) -> Result<Bytes, Memory>
     ensures key { IfOk result (λ public. public ≡ K.public_in (K.secret_key pair.now)) }
     ensures size { IfOk result (λ public. length public ≡ K.PUBLIC_LEN) }
