@@ -7,9 +7,10 @@ use Rattle.hex.specs.Hex.{encode_lower}
 use Rattle.kem_trait.specs.declared.kem.Kem.{Ghosts as KemGhosts}
 use Rattle.mail_trait.specs.Post.{SameElsewhere}
 use Rattle.mail_trait.specs.declared.post.Post.{Ghosts as PostGhosts}
+use Rattle.mail_trait.specs.declared.sink.Sink.{Ghosts as SinkGhosts}
 use Rattle.member_identity.specs.Identity.{card_bytes}
 use Rattle.sha2.specs.Sha256.{sha256}
-use Rattle.mailbox_cli.specs.Ends.{not_journal_at, refused}
+use Rattle.mailbox_cli.specs.Ends.{Ends, not_journal_at, refused}
 use Rattle.mailbox_cli.specs.Lines.{card_line, not_made_line, not_journal_line}
 use Rattle.mailbox_cli.specs.Says.{ended_with}
 use Rattle.mailbox_cli.specs.Steps.{Step, steps_of, tree_height}
@@ -70,3 +71,8 @@ module _ {K L D P : Type 0} (kem : KemGhosts K L) (disks : DiskGhosts D) (posts 
     put_failed : (step : Step) → (disks.told → steps_of kem (disks.content disk) ≡ Ok (step ∷ [])) → PutFault kem posts step post post' ended → CardFault ended
     -- 9: memory ran out before.
     no_memory : ended ≡ ended_with 9 → post' ≡ post → CardFault ended
+
+-- A run of `card` ends with one of its answers or faults.
+abbrev pub CardEnds : {K L D P S : Type 0} → KemGhosts K L → DiskGhosts D → PostGhosts P → SinkGhosts S → D → D → P → P → S → S → Ended → Type 0
+CardEnds kem disks posts sinks disk disk' post post' out out' ended =
+    Ends sinks (CardAnswer kem disks posts disk disk' post post') (CardFault kem disks posts disk disk' post post') out out' ended

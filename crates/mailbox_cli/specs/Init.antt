@@ -5,8 +5,9 @@ use Rattle.disk_trait.specs.Moments.{OnlyReads}
 use Rattle.disk_trait.specs.declared.disk.Disk.{Ghosts as DiskGhosts}
 use Rattle.kem_trait.specs.declared.kem.Kem.{Ghosts as KemGhosts}
 use Rattle.mail_trait.specs.declared.entropy.Entropy.{Ghosts as EntropyGhosts}
+use Rattle.mail_trait.specs.declared.sink.Sink.{Ghosts as SinkGhosts}
 use Rattle.member_identity.specs.Identity.{secret_from}
-use Rattle.mailbox_cli.specs.Ends.{not_journal_at, refused}
+use Rattle.mailbox_cli.specs.Ends.{Ends, not_journal_at, refused}
 use Rattle.mailbox_cli.specs.Lines.{made_line, already_made_line, no_usable_key_line, not_journal_line}
 use Rattle.mailbox_cli.specs.Says.{ended_with}
 use Rattle.mailbox_cli.specs.Steps.{Step, steps_of}
@@ -43,3 +44,8 @@ module _ {K P D E : Type 0} (kem : KemGhosts K P) (disks : DiskGhosts D) (source
     no_memory : ended ≡ ended_with 9
         → IsRaised (disks.counts disk).wants (disks.counts disk').wants ⊎ (disks.told → OnlyReads disks.content disks.image disks.clock disks.image_since disk disk')
         → InitFault ended
+
+-- A run of `init` ends with one of its answers or faults.
+abbrev pub InitEnds : {K P D E S : Type 0} → KemGhosts K P → DiskGhosts D → EntropyGhosts E → SinkGhosts S → D → D → E → E → S → S → Ended → Type 0
+InitEnds kem disks sources sinks disk disk' entropy entropy' out out' ended =
+    Ends sinks (InitAnswer kem disks sources disk disk' entropy entropy') (InitFault kem disks sources disk disk' entropy entropy') out out' ended

@@ -3,7 +3,7 @@ ghost use Rattle.disk_trait.specs.Moments.{OnlyReads};
 ghost use Rattle.sha2.specs.Sha256.{sha256};
 ghost use Rattle.hex.specs.Hex.{encode_lower};
 ghost use Rattle.member_identity.specs.Identity.{HasCards};
-ghost use Rattle.mailbox_cli.specs.Card.{CardAnswer, CardFault, IsCardOf, PutAnswer, PutFault, file_name};
+ghost use Rattle.mailbox_cli.specs.Card.{CardEnds, IsCardOf, PutAnswer, PutFault, file_name};
 ghost use Rattle.mailbox_cli.specs.Ends.{Ends};
 ghost use Rattle.mailbox_cli.specs.Lines.{card_line};
 ghost use Rattle.mailbox_cli.specs.Run.{Stored};
@@ -28,7 +28,8 @@ pub(crate) fn card<K: Kem, D: Disk, P: Post, S: Sink>(
     out: &mut S,
 ) -> (D, Ended)
     requires { HasCards ⟦<K as Kem>⟧ tree_height }
-    ensures ends { Ends ⟦<S as Sink>⟧ (CardAnswer ⟦<K as Kem>⟧ ⟦<D as Disk>⟧ ⟦<P as Post>⟧ disk result.0 post.old post.new) (CardFault ⟦<K as Kem>⟧ ⟦<D as Disk>⟧ ⟦<P as Post>⟧ disk result.0 post.old post.new) out.old out.new result.1 }
+    ensures ends { CardEnds ⟦<K as Kem>⟧ ⟦<D as Disk>⟧ ⟦<P as Post>⟧ ⟦<S as Sink>⟧
+        disk result.0 post.old post.new out.old out.new result.1 }
     ensures stored { D.told → Stored ⟦<K as Kem>⟧ ⟦<D as Disk>⟧ [] disk result.0 result.1 }
     ensures reads { D.told → OnlyReads D.content D.image D.clock D.image_since disk result.0 }
 {
@@ -56,7 +57,8 @@ fn put_card<K: Kem, P: Post, S: Sink>(
     out: &mut S,
 ) -> Ended
     requires { HasCards ⟦<K as Kem>⟧ tree_height }
-    ensures { Ends ⟦<S as Sink>⟧ (PutAnswer ⟦<K as Kem>⟧ ⟦<P as Post>⟧ member.now post.old post.new) (PutFault ⟦<K as Kem>⟧ ⟦<P as Post>⟧ member.now post.old post.new) out.old out.new result }
+    ensures { Ends ⟦<S as Sink>⟧ (PutAnswer ⟦<K as Kem>⟧ ⟦<P as Post>⟧ member.now post.old post.new)
+        (PutFault ⟦<K as Kem>⟧ ⟦<P as Post>⟧ member.now post.old post.new) out.old out.new result }
 {
     match card_file(alloc, member) {
         Err(_) => Ended::NO_MEMORY,

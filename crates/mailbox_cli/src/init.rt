@@ -1,8 +1,7 @@
 ghost use Rattle.std.specs.Prelude.{◌≡◌, ℕ, [], ◌∷◌, length, Ok, None};
 ghost use Rattle.disk_trait.specs.Disk.{LeavesOnly};
 ghost use Rattle.member_journal.specs.Journal.{places, disk_of};
-ghost use Rattle.mailbox_cli.specs.Ends.{Ends};
-ghost use Rattle.mailbox_cli.specs.Init.{InitAnswer, InitFault};
+ghost use Rattle.mailbox_cli.specs.Init.{InitEnds};
 ghost use Rattle.mailbox_cli.specs.Run.{IsAcknowledged, IsAskedOnce, IsDurable, LeavesOthers, Stored, planned};
 ghost use Rattle.mailbox_cli.specs.Steps.{inviter_of, steps_of};
 
@@ -25,11 +24,14 @@ pub(crate) fn init<K: Kem, D: Disk, E: Entropy, S: Sink>(
     entropy: &mut E,
     out: &mut S,
 ) -> (D, Ended)
-    ensures ends { Ends ⟦<S as Sink>⟧ (InitAnswer ⟦<K as Kem>⟧ ⟦<D as Disk>⟧ ⟦<E as Entropy>⟧ disk result.0 entropy.old entropy.new) (InitFault ⟦<K as Kem>⟧ ⟦<D as Disk>⟧ ⟦<E as Entropy>⟧ disk result.0 entropy.old entropy.new) out.old out.new result.1 }
+    ensures ends { InitEnds ⟦<K as Kem>⟧ ⟦<D as Disk>⟧ ⟦<E as Entropy>⟧ ⟦<S as Sink>⟧
+        disk result.0 entropy.old entropy.new out.old out.new result.1 }
     ensures asked { E.told → IsAskedOnce (E.given entropy.old) (E.given entropy.new) }
     ensures other { D.told → LeavesOthers ⟦<K as Kem>⟧ ⟦<D as Disk>⟧ disk result.0 }
-    ensures stored { D.told → E.told → Stored ⟦<K as Kem>⟧ ⟦<D as Disk>⟧ (planned ⟦<K as Kem>⟧ inviter (E.given entropy.old) (E.given entropy.new)) disk result.0 result.1 }
-    ensures durable { D.told → E.told → IsAcknowledged ⟦<S as Sink>⟧ out.old out.new result.1 → IsDurable ⟦<K as Kem>⟧ ⟦<D as Disk>⟧ (planned ⟦<K as Kem>⟧ inviter (E.given entropy.old) (E.given entropy.new)) disk result.0 }
+    ensures stored { D.told → E.told → Stored ⟦<K as Kem>⟧ ⟦<D as Disk>⟧
+        (planned ⟦<K as Kem>⟧ inviter (E.given entropy.old) (E.given entropy.new)) disk result.0 result.1 }
+    ensures durable { D.told → E.told → IsAcknowledged ⟦<S as Sink>⟧ out.old out.new result.1 → IsDurable ⟦<K as Kem>⟧ ⟦<D as Disk>⟧
+        (planned ⟦<K as Kem>⟧ inviter (E.given entropy.old) (E.given entropy.new)) disk result.0 }
 {
     match open_member::<K, D>(alloc, disk) {
         Err((disk, fault)) => {
@@ -57,10 +59,13 @@ fn make<K: Kem, D: Disk, E: Entropy, S: Sink>(
     requires bare { length (places journal) ≡ 0 }
     requires settled { D.told → LeavesOnly (D.content (disk_of journal)) (D.image (disk_of journal)) }
     requires absent { D.told → steps_of ⟦<K as Kem>⟧ (D.content (disk_of journal)) ≡ Ok [] }
-    ensures ends { Ends ⟦<S as Sink>⟧ (InitAnswer ⟦<K as Kem>⟧ ⟦<D as Disk>⟧ ⟦<E as Entropy>⟧ (disk_of journal) result.0 entropy.old entropy.new) (InitFault ⟦<K as Kem>⟧ ⟦<D as Disk>⟧ ⟦<E as Entropy>⟧ (disk_of journal) result.0 entropy.old entropy.new) out.old out.new result.1 }
+    ensures ends { InitEnds ⟦<K as Kem>⟧ ⟦<D as Disk>⟧ ⟦<E as Entropy>⟧ ⟦<S as Sink>⟧
+        (disk_of journal) result.0 entropy.old entropy.new out.old out.new result.1 }
     ensures asked { E.told → IsAskedOnce (E.given entropy.old) (E.given entropy.new) }
-    ensures stored { D.told → E.told → Stored ⟦<K as Kem>⟧ ⟦<D as Disk>⟧ (planned ⟦<K as Kem>⟧ inviter (E.given entropy.old) (E.given entropy.new)) (disk_of journal) result.0 result.1 }
-    ensures durable { D.told → E.told → IsAcknowledged ⟦<S as Sink>⟧ out.old out.new result.1 → IsDurable ⟦<K as Kem>⟧ ⟦<D as Disk>⟧ (planned ⟦<K as Kem>⟧ inviter (E.given entropy.old) (E.given entropy.new)) (disk_of journal) result.0 }
+    ensures stored { D.told → E.told → Stored ⟦<K as Kem>⟧ ⟦<D as Disk>⟧
+        (planned ⟦<K as Kem>⟧ inviter (E.given entropy.old) (E.given entropy.new)) (disk_of journal) result.0 result.1 }
+    ensures durable { D.told → E.told → IsAcknowledged ⟦<S as Sink>⟧ out.old out.new result.1 → IsDurable ⟦<K as Kem>⟧ ⟦<D as Disk>⟧
+        (planned ⟦<K as Kem>⟧ inviter (E.given entropy.old) (E.given entropy.new)) (disk_of journal) result.0 }
 {
     let inviter = inviter_id(inviter);
     let mut random = [0; 32];
