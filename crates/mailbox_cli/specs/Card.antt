@@ -43,13 +43,15 @@ module _ {K L P : Type 0} (kem : KemGhosts K L) (posts : PostGhosts P) (step : S
     pub tells : line ≡ card_line (sha256 card)
     pub puts : PutsCard posts post post' card
 
+  -- Each fault with its cause.
   pub data PutFault (ended : Ended) : Type 0 where
     -- 5: the mail folder failed, and counted it.
     post_failed : (card : List ℕ) → IsCardOf kem step card → ended ≡ ended_with 5 → IsRaised (posts.counts post).faults (posts.counts post').faults
         → ChangesCard posts post post' card → PutFault ended
-    -- 9: it lacked memory, and counted it, or memory ran out before.
+    -- 9: the mail folder lacked memory, and counted it.
     post_lacked : (card : List ℕ) → IsCardOf kem step card → ended ≡ ended_with 9 → IsRaised (posts.counts post).wants (posts.counts post').wants
         → ChangesCard posts post post' card → PutFault ended
+    -- 9: memory ran out before the card was put.
     card_lacked : ended ≡ ended_with 9 → post' ≡ post → PutFault ended
 
 module _ {K L D P : Type 0} (kem : KemGhosts K L) (disks : DiskGhosts D) (posts : PostGhosts P) (disk disk' : D) (post post' : P) where
@@ -67,9 +69,9 @@ module _ {K L D P : Type 0} (kem : KemGhosts K L) (disks : DiskGhosts D) (posts 
   pub data CardFault (ended : Ended) : Type 0 where
     -- 4: the disk failed, and counted it.
     disk_failed : ended ≡ ended_with 4 → IsRaised (disks.counts disk).faults (disks.counts disk').faults → post' ≡ post → CardFault ended
-    -- 5, 9: the card was not put.
+    -- 5, 9: the card was not put, or not whole.
     put_failed : (step : Step) → (disks.told → steps_of kem (disks.content disk) ≡ Ok (step ∷ [])) → PutFault kem posts step post post' ended → CardFault ended
-    -- 9: memory ran out before.
+    -- 9: memory ran out before there was a card.
     no_memory : ended ≡ ended_with 9 → post' ≡ post → CardFault ended
 
 -- A run of `card` ends with one of its answers or faults.
