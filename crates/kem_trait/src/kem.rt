@@ -185,4 +185,16 @@ pub trait Kem {
 
     /// Decapsulation undoes encapsulation.
     ghost decapsulates: { (secret : List ℕ) (words : ℕ → ℕ) (e : Encapsulated) → is_secret secret ≡ true → encapsulated (public_in secret) words ≡ Some e → decapsulated secret e.cipher ≡ Some e.key };
+
+    /// A secret key of a tested pair has its length.
+    ghost secrets_have_length: { (secret : List ℕ) → is_secret secret ≡ true → length secret ≡ SECRET_LEN };
+
+    /// A public key has its length.
+    ghost publics_have_length: { (public : List ℕ) → is_public public ≡ true → length public ≡ PUBLIC_LEN };
+
+    /// To each public key any words encapsulate.
+    ghost encapsulates: { (public : List ℕ) (words : ℕ → ℕ) → is_public public ≡ true → IsSome (encapsulated public words) };
+
+    /// What is encapsulated is a ciphertext of its length and a key of 32 bytes.
+    ghost ciphers_have_length: { (public : List ℕ) (words : ℕ → ℕ) (e : Encapsulated) → encapsulated public words ≡ Some e → (length e.cipher ≡ CIPHER_LEN) × (length e.key ≡ 32) };
 }

@@ -1,7 +1,6 @@
 -- What the readers of polynomials answer, by what they read of digits.
-use Rattle.std.proofs.Common.{◌≡◌, ap, sym, subst, ◌∙◌, ℕ, ◌+◌, ◌*◌, ◌/◌, ◌<◌, arith, unsigned_abs, Option, Some, None, List, length, map, ℤ, pos, ◌-ℤ◌}
+use Rattle.std.proofs.Common.{◌≡◌, ap, sym, subst, ◌∙◌, ℕ, ◌+◌, ◌*◌, ◌/◌, arith, unsigned_abs, Some, None, List, length, map, ℤ, pos, ◌-ℤ◌}
 use Rattle.ntru_codec.specs.Mixed.{Spells, IsSpelling}
-use Rattle.ntru_model.specs.Parameters.{Parameters}
 use Rattle.ntru_model.specs.Encodings.{public_read, rounded_read}
 use Rattle.ntru_prime.specs.Sets.{IsSet, set_of}
 use Rattle.ntru_model.proofs.Computed.{public_read_from, public_read_none, rounded_read_from, rounded_read_none}

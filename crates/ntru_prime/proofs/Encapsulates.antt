@@ -1,20 +1,19 @@
 -- Encapsulation and decapsulation by the values that the code computes.
-use Rattle.std.proofs.Common.{◌≡◌, refl, ap, ap₂, sym, subst, ◌∙◌, ℕ, ◌+◌, Bool, true, false, not, Option, Some, None, is_some, List, ◌++◌, length, map, take, All, ℤ, pos, unsigned_abs}
+use Rattle.std.proofs.Common.{◌≡◌, ap, ap₂, sym, ◌∙◌, ℕ, Bool, true, false, not, Option, Some, None, is_some, List, ◌++◌, map, All, ℤ, unsigned_abs}
 use Rattle.std.specs.Option.{option_map}
 use Rattle.ring_poly.specs.Ring.{AreCongruent, AreRounded, IsCentred, product}
-use Rattle.ntru_codec.specs.Small.{IsSmall, small_encoding}
-use Rattle.ntru_model.specs.Parameters.{Parameters, core_len}
+use Rattle.ntru_codec.specs.Small.{small_encoding}
+use Rattle.ntru_model.specs.Parameters.{Parameters}
 use Rattle.ntru_model.specs.Draws.{Stream, short_draw}
 use Rattle.ntru_model.specs.Residues.{nearest_triple, product_mod}
-use Rattle.ntru_model.specs.Encodings.{public_read, rounded_encoding, rounded_read}
-use Rattle.ntru_model.specs.Pairs.{KeyPair, hash, public_key, secret_read}
+use Rattle.ntru_model.specs.Encodings.{public_read, rounded_encoding}
+use Rattle.ntru_model.specs.Pairs.{hash}
 use Rattle.ntru_model.specs.Encapsulation.{answer, cipher_of, key_of, decapsulated, decapsulated_by, r_found, r_of}
 use Rattle.ntru_model.specs.Encapsulation as Model
 use Rattle.ntru_model.proofs.Residues.{nearest_list}
 use Rattle.ntru_model.proofs.Sets.{is_set}
-use Rattle.ntru_model.proofs.Bytes.{from_public_read, from_rounded_read}
-use Rattle.ntru_model.proofs.Tested.{IsTested, tested_from_read}
-use Rattle.ntru_prime.specs.Sets.{IsSet, parameters, set_of, pair_with}
+use Rattle.ntru_model.proofs.Bytes.{from_public_read}
+use Rattle.ntru_prime.specs.Sets.{IsSet, set_of}
 use Rattle.ntru_prime.specs.Keys.{encapsulated, is_public}
 use Rattle.ntru_prime.proofs.Sums.{from_natural, product_by}
 

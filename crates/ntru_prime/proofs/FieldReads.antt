@@ -1,5 +1,5 @@
 -- What the fields of a secret key are read as.
-use Rattle.std.proofs.Common.{◌≡◌, refl, ap, ap₂, sym, subst, ◌∙◌, ℕ, ◌+◌, ◌%◌, Option, Some, None, List, length, take, drop, ℤ}
+use Rattle.std.proofs.Common.{◌≡◌, ap, sym, subst, ◌∙◌, ℕ, ◌+◌, ◌%◌, Option, Some, None, List, length, take, drop, ℤ}
 use Rattle.std.specs.Option.{option_map, option_and_then}
 use Rattle.ntru_codec.specs.Small.{SpellsSmall, IsSmallSpelling}
 use Rattle.ntru_model.specs.Parameters.{Parameters, small_len, public_len}

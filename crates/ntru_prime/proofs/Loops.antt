@@ -1,5 +1,5 @@
 -- Loops that write an element at each step.
-use Rattle.std.proofs.Common.{◌≡◌, refl, Bool, true, false, not, Option, Some, None, is_some, OnSome, All, ap, ap₂, sym, ◌∙◌, ℕ, suc, ◌+◌, ◌*◌, ◌<◌, ◌≤◌, List, [], ◌∷◌, ◌++◌, map, take, drop, set, length, get_or, flat_map, arith, add-zero, below_more, get_or-set_other, get_or-set_same, ◌≢◌, append_assoc}
+use Rattle.std.proofs.Common.{◌≡◌, Bool, true, false, not, Option, Some, None, is_some, OnSome, All, ap, ap₂, sym, ◌∙◌, ℕ, ◌+◌, ◌*◌, ◌<◌, ◌≤◌, List, [], ◌∷◌, ◌++◌, map, take, set, length, get_or, flat_map, arith, below_more, get_or-set_other, get_or-set_same, ◌≢◌, append_assoc}
 use Rattle.std.proofs.lemmas.List.{take_more, take_more_set, map-append, take_all, length-append, length-take, append-nil}
 use Rattle.std.proofs.lemmas.List.Concat.{flat_map-cons}
 use Rattle.std.proofs.lemmas.List.Elements.{All-same, All-push, All-nil}

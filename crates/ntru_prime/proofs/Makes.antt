@@ -1,20 +1,19 @@
 -- Pairs made from words, by the values that the code computes.
-use Rattle.std.proofs.Common.{◌≡◌, refl, ap, ap₂, sym, subst, ◌∙◌, ℕ, Option, Some, None, List, length, All, ℤ, pos, negsuc, ◌*ℤ◌, unsigned_abs, arith, ◌≤◌, inl, inr}
+use Rattle.std.proofs.Common.{◌≡◌, ap, ap₂, sym, subst, ◌∙◌, ℕ, Option, Some, None, List, length, All, ℤ, pos, unsigned_abs, arith, ◌≤◌, inl, inr}
 use Rattle.std.specs.Option.{option_map, option_and_then}
 use Rattle.std.proofs.lemmas.Int.{ints}
-use Rattle.std.proofs.lemmas.List.Elements.{All-weaker, All-same}
+use Rattle.std.proofs.lemmas.List.Elements.{All-weaker}
 use Rattle.ring_poly.specs.Ring.{IsCentred}
 use Rattle.ring_laws.specs.Laws.{multiple_of}
 use Rattle.ntru_codec.specs.Small.{IsSmall}
 use Rattle.ntru_model.specs.Parameters.{Parameters, small_len}
 use Rattle.ntru_model.specs.Draws.{Stream, Invertible, first_invertible, small_draw, short_draw, bytes_draw}
 use Rattle.ntru_model.specs.Residues.{inverse_mod, product_mod}
-use Rattle.ntru_model.specs.Pairs.{KeyPair, pair_drawn, secret_key, secret_read}
+use Rattle.ntru_model.specs.Pairs.{pair_drawn, secret_key, secret_read}
 use Rattle.ntru_model.proofs.Drawn.{first_gives, small_draw_small}
 use Rattle.ntru_model.proofs.DrawnPairs.{drawn_tested}
 use Rattle.ntru_model.proofs.Inverses.{from_inverse}
 use Rattle.ntru_model.proofs.Sets.{is_set}
-use Rattle.ntru_model.proofs.Small.{all_within_small}
 use Rattle.ntru_model.proofs.Tested.{IsTested, HasParts, read_back, secret_parts}
 use Rattle.ntru_prime.specs.Sets.{IsSet, parameters, set_of, pair_with}
 use Rattle.ntru_prime.specs.Keys.{made}

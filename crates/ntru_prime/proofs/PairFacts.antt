@@ -1,5 +1,5 @@
 -- What a tested pair holds, and what decapsulation by it gives.
-use Rattle.std.proofs.Common.{◌≡◌, refl, ap, ap₂, sym, subst, ◌∙◌, ℕ, ◌+◌, ◌-◌, Bool, true, false, cond, Option, Some, None, List, ◌++◌, length, map, take, drop, replicate, All, ℤ, pos, nat_eq, unsigned_abs, arith, inl, inr}
+use Rattle.std.proofs.Common.{◌≡◌, refl, ap, ap₂, sym, subst, ◌∙◌, ℕ, ◌+◌, ◌-◌, Bool, true, false, cond, Some, None, List, ◌++◌, length, map, take, drop, replicate, All, ℤ, pos, nat_eq, unsigned_abs, inl, inr}
 use Rattle.std.specs.List.{count_by}
 use Rattle.std.specs.Option.{option_map, option_and_then}
 use Rattle.std.specs.Cmp.Lexicographic.{pointwise}
@@ -7,10 +7,10 @@ use Rattle.std.proofs.lemmas.List.Elements.{All-same, All-append, All-replicate}
 use Rattle.ring_poly.specs.Ring.{IsCentred}
 use Rattle.ring_laws.specs.Laws.{is_nonzero, multiple_of}
 use Rattle.ntru_codec.specs.Small.{IsSmall, small_encoding}
-use Rattle.ntru_model.specs.Parameters.{Parameters, core_len, secret_len, small_len, public_len}
+use Rattle.ntru_model.specs.Parameters.{core_len, secret_len, small_len, public_len}
 use Rattle.ntru_model.specs.Residues.{centred, nearest_triple, product_mod}
 use Rattle.ntru_model.specs.Encodings.{rounded_encoding, rounded_read}
-use Rattle.ntru_model.specs.Pairs.{KeyPair, hash, public_key, secret_key, secret_read}
+use Rattle.ntru_model.specs.Pairs.{hash, public_key, secret_read}
 use Rattle.ntru_model.specs.Encapsulation.{answer, cipher_of, decapsulated, decapsulated_by, r_found, r_of}
 use Rattle.ntru_model.proofs.Sets.{is_set}
 use Rattle.ntru_model.proofs.Bytes.{from_rounded_read}

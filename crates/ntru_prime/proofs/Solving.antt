@@ -1,8 +1,7 @@
 -- Inverses by the answers of the solver.
-use Rattle.std.proofs.Common.{◌≡◌, refl, ap, sym, subst, ◌∙◌, ℕ, suc, ◌+◌, ◌-◌, ◌%◌, ◌<◌, ◌≤◌, Option, Some, None, List, length, All, ℤ, pos, unsigned_abs, arith}
+use Rattle.std.proofs.Common.{◌≡◌, refl, ap, sym, subst, ◌∙◌, ℕ, suc, ◌+◌, ◌-◌, ◌<◌, ◌≤◌, Option, Some, None, List, length, All, ℤ, pos, unsigned_abs, arith}
 use Rattle.std.proofs.lemmas.List.Elements.{All-same}
 use Rattle.ring_poly.specs.Ring.{IsCentred}
-use Rattle.ring_laws.specs.Laws.{multiple_of}
 use Rattle.ring_solve.specs.declared.answer.Solved.{Solved}
 use Rattle.ring_solve.specs.Solutions.{Solves, coefficients_of}
 use Rattle.ntru_model.specs.Draws.{Stream, behind, first_invertible, Invertible, small_draw}
@@ -11,7 +10,7 @@ use Rattle.ntru_model.proofs.Computed.{first_none, first_here, first_later}
 use Rattle.ntru_model.proofs.Drawn.{small_draw_small}
 use Rattle.ntru_model.proofs.Inverses.{solved_inverse, inverse_of}
 use Rattle.ntru_model.proofs.Small.{all_small_within, all_within_centred}
-use Rattle.ntru_prime.specs.Sets.{IsSet, set_of}
+use Rattle.ntru_prime.specs.Sets.{IsSet}
 use Rattle.ntru_prime.proofs.Sums.{to_natural}
 
 -- a drawn small polynomial is centred modulo 3

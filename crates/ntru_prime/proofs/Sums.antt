@@ -1,5 +1,5 @@
 -- Products and their coefficients, for both sets.
-use Rattle.std.proofs.Common.{◌≡◌, ◌⊎◌, inl, inr, refl, ap, sym, subst, ◌∙◌, ℕ, ◌+◌, ◌*◌, ◌/◌, ◌<◌, ◌≤◌, List, length, map, All, ℤ, pos, negsuc, ◌*ℤ◌, arith, unsigned_abs}
+use Rattle.std.proofs.Common.{◌≡◌, inl, inr, refl, ap, sym, subst, ◌∙◌, ℕ, ◌+◌, ◌*◌, ◌/◌, ◌≤◌, List, All, ℤ, pos, ◌*ℤ◌, arith, unsigned_abs}
 use Rattle.std.proofs.lemmas.Int.{ints}
 use Rattle.std.proofs.lemmas.List.Elements.{All-map, All-weaker, All-same}
 use Rattle.ring_poly.specs.Ring.{AreCongruent, IsCentred, product}
@@ -10,7 +10,7 @@ use Rattle.ntru_model.specs.Residues.{product_mod}
 use Rattle.ntru_model.proofs.Residues.{product_mod_is}
 use Rattle.ntru_model.proofs.Small.{all_within_small}
 use Rattle.ntru_model.proofs.Drawn.{short_draw_short}
-use Rattle.ntru_prime.specs.Sets.{IsSet, set_of}
+use Rattle.ntru_prime.specs.Sets.{IsSet}
 
 three_centred : (m : ℕ) (d : ℤ) → 127 ≤ m → IsSmall d → IsCentred (pos m) (pos 3 *ℤ d)
 three_centred m d low h =

@@ -1,10 +1,10 @@
 -- The test of a pair, part by part.
-use Rattle.std.proofs.Common.{◌≡◌, refl, ap, ap₂, sym, ◌∙◌, ℕ, Bool, true, false, ◌&&◌, List, ℤ, pos, nat_eq, unsigned_abs}
+use Rattle.std.proofs.Common.{◌≡◌, refl, ap, sym, ◌∙◌, Bool, true, false, ◌&&◌, List, ℤ, nat_eq}
 use Rattle.std.specs.List.{count_by, list_all}
 use Rattle.std.specs.Ordering.{int_eq}
 use Rattle.std.specs.Cmp.Lexicographic.{pointwise}
 use Rattle.ring_solve.specs.Fields.{one}
-use Rattle.ring_laws.specs.Laws.{is_nonzero, multiple_of}
+use Rattle.ring_laws.specs.Laws.{is_nonzero}
 use Rattle.ntru_model.specs.Parameters.{Parameters}
 use Rattle.ntru_model.specs.Residues.{product_mod}
 use Rattle.ntru_model.specs.Pairs.{KeyPair, is_tested, is_small_number, g_of}

@@ -1,4 +1,5 @@
 pub mod Sets
 pub mod Keys
 pub mod PairKeys
+pub mod Lengths
 pub mod KeyLaws

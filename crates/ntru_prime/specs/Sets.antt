@@ -1,5 +1,5 @@
 -- The two sets of parameters by their numbers, and the pair that a secret key holds.
-use Rattle.std.specs.Prelude.{◌≡◌, ◌⊎◌, ℕ, nat_eq, if◌then◌else◌, ◌+◌, ◌*◌, ◌%◌, ◌<◌, ◌≤◌, List, take, drop, ℤ, pos, unsigned_abs}
+use Rattle.std.specs.Prelude.{◌≡◌, ◌⊎◌, ℕ, nat_eq, if◌then◌else◌, ◌+◌, ◌%◌, ◌<◌, ◌≤◌, List, take, drop, ℤ, pos, unsigned_abs}
 use Rattle.ring_poly.specs.Ring.{IsModulus}
 use Rattle.ring_solve.specs.Fields.{IsField}
 use Rattle.ntru_model.specs.Parameters.{Parameters, drill37, public_len, small_len, sntrup761}

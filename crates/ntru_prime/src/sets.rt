@@ -20,7 +20,8 @@ pub struct Drill37;
 impl Kem for Sntrup761 {
     ghost use Rattle.ntru_prime.specs.Keys.{decapsulated, encapsulated, is_public, is_secret, made, public_in};
     ghost use Rattle.ntru_prime.specs.PairKeys.{secret_of};
-    ghost use Rattle.ntru_prime.specs.KeyLaws.{is_secret_from, made_is_tested, public_is_public, decapsulates};
+    ghost use Rattle.ntru_prime.specs.Lengths.{large_lengths};
+    ghost use Rattle.ntru_prime.specs.KeyLaws.{is_secret_from, made_is_tested, public_is_public, decapsulates, secrets_have_length, publics_have_length, encapsulates, ciphers_have_length};
 
     ghost SET = { 1 };
 
@@ -93,12 +94,21 @@ impl Kem for Sntrup761 {
     ghost public_is_public = { public_is_public sntrup761 (inl refl) };
 
     ghost decapsulates = { decapsulates sntrup761 (inl refl) };
+
+    ghost secrets_have_length = { secrets_have_length large_lengths };
+
+    ghost publics_have_length = { publics_have_length large_lengths };
+
+    ghost encapsulates = { encapsulates sntrup761 };
+
+    ghost ciphers_have_length = { ciphers_have_length large_lengths };
 }
 
 impl Kem for Drill37 {
     ghost use Rattle.ntru_prime.specs.Keys.{decapsulated, encapsulated, is_public, is_secret, made, public_in};
     ghost use Rattle.ntru_prime.specs.PairKeys.{secret_of};
-    ghost use Rattle.ntru_prime.specs.KeyLaws.{is_secret_from, made_is_tested, public_is_public, decapsulates};
+    ghost use Rattle.ntru_prime.specs.Lengths.{little_lengths};
+    ghost use Rattle.ntru_prime.specs.KeyLaws.{is_secret_from, made_is_tested, public_is_public, decapsulates, secrets_have_length, publics_have_length, encapsulates, ciphers_have_length};
 
     ghost SET = { 2 };
 
@@ -171,4 +181,12 @@ impl Kem for Drill37 {
     ghost public_is_public = { public_is_public drill37 (inr refl) };
 
     ghost decapsulates = { decapsulates drill37 (inr refl) };
+
+    ghost secrets_have_length = { secrets_have_length little_lengths };
+
+    ghost publics_have_length = { publics_have_length little_lengths };
+
+    ghost encapsulates = { encapsulates drill37 };
+
+    ghost ciphers_have_length = { ciphers_have_length little_lengths };
 }

@@ -1,6 +1,5 @@
-use Rattle.std.proofs.Common.{◌≡◌, ◌∙◌, ◌+◌, ◌/◌, ap, arith, length, take, flat_map}
+use Rattle.std.proofs.Common.{◌≡◌, ◌∙◌, ◌+◌, ◌/◌, ap, arith, length, take}
 use Rattle.std.proofs.lemmas.List.{length-take}
-use Rattle.byteorder.specs.Endian.{little_bytes}
 use Rattle.ntru_model.proofs.Computed.{bytes_draw_from}
 use Rattle.ntru_prime.proofs.draws.draw_bytes.Goals as goal
 

@@ -1,4 +1,4 @@
-use Rattle.std.proofs.Common.{◌≡◌, ◌∙◌, ap, arith, ◌+◌}
+use Rattle.std.proofs.Common.{◌∙◌, ap, arith, ◌+◌}
 use Rattle.std.proofs.Math.Path.{fun_ext}
 use Rattle.ntru_model.proofs.Computed.{small_draw_from}
 use Rattle.ntru_prime.proofs.draws.draw_small.Goals as goal

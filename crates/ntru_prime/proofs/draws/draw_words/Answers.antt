@@ -1,4 +1,4 @@
-use Rattle.std.proofs.Common.{◌≡◌, ℕ, suc, ◌+◌, ◌<◌, length, get_or, arith, ap, ◌∙◌, sym, zero-add, add-zero}
+use Rattle.std.proofs.Common.{◌≡◌, suc, ◌+◌, arith, ap, ◌∙◌, sym, zero-add, add-zero}
 use Rattle.ntru_prime.proofs.Loops.{each_step}
 use Rattle.ntru_prime.proofs.draws.draw_words.Goals as goal
 

@@ -1,6 +1,5 @@
 use Rattle.std.proofs.Common.{◌≡◌, ◌%◌, take, map}
 use Rattle.ntru_codec.specs.Small.{coefficient_of}
-use Rattle.ntru_model.specs.Draws.{small_coefficient}
 use Rattle.ntru_prime.proofs.draws.short_of.Given as goal
 
 abbrev pub invariant-loop-i : goal.invariant-loop-i

@@ -1,6 +1,5 @@
-use Rattle.std.proofs.Common.{◌≡◌, ◌%◌, arith, rules, ◌∙◌, SFits, w16}
+use Rattle.std.proofs.Common.{arith, rules, ◌∙◌, SFits, w16}
 use Rattle.std.proofs.lemmas.Int.{to_z-of_z}
-use Rattle.ntru_codec.specs.Small.{coefficient_of}
 use Rattle.ntru_model.specs.Draws.{small_coefficient}
 use Rattle.ntru_prime.proofs.Loops.{map_step, map_end}
 use Rattle.ntru_prime.proofs.draws.small_of.Goals as goal

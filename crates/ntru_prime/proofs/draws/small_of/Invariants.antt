@@ -1,5 +1,4 @@
-use Rattle.std.proofs.Common.{◌≡◌, ◌%◌, take, map}
-use Rattle.ntru_codec.specs.Small.{coefficient_of}
+use Rattle.std.proofs.Common.{◌≡◌, take, map}
 use Rattle.ntru_model.specs.Draws.{small_coefficient}
 use Rattle.ntru_prime.proofs.draws.small_of.Given as goal
 

@@ -1,4 +1,4 @@
-use Rattle.std.proofs.Common.{◌≡◌, refl, ◌*◌, ◌+◌, arith, ap, sym, ◌∙◌, length, take, drop, flat_map}
+use Rattle.std.proofs.Common.{◌≡◌, ◌*◌, ◌+◌, arith, ap, sym, ◌∙◌, length, drop, flat_map}
 use Rattle.std.proofs.lemmas.List.{take_all}
 use Rattle.byteorder.specs.Endian.{little_bytes}
 use Rattle.ntru_prime.proofs.Loops.{bytes_step}

@@ -1,4 +1,4 @@
-use Rattle.std.proofs.Common.{◌≡◌, ap, ap₂, ◌∙◌, length, drop, arith}
+use Rattle.std.proofs.Common.{ap, ap₂, ◌∙◌, length, drop, arith}
 use Rattle.ntru_prime.proofs.PairFacts.{pair_len, pair_parts}
 use Rattle.ntru_prime.proofs.encapsulation.cache_of.Goals as goal
 

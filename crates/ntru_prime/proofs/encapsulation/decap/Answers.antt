@@ -1,4 +1,4 @@
-use Rattle.std.proofs.Common.{◌≡◌, ◌-◌, ap, ◌∙◌, length, arith}
+use Rattle.std.proofs.Common.{◌-◌, length, arith}
 use Rattle.ntru_prime.proofs.Encapsulates.{read_some, read_none}
 use Rattle.ntru_prime.proofs.PairFacts.{core_centred, decap_none, decap_some}
 use Rattle.ntru_prime.proofs.encapsulation.decap.Goals as goal

@@ -1,4 +1,4 @@
-use Rattle.std.proofs.Common.{◌≡◌, ◌++◌, ◌∙◌, ap}
+use Rattle.std.proofs.Common.{◌++◌, ◌∙◌, ap}
 use Rattle.ntru_model.specs.Pairs.{hash}
 use Rattle.ntru_prime.proofs.Sums.{short_small}
 use Rattle.ntru_prime.proofs.Encapsulates.{read_some, read_none, public_is_read, public_centred, encapsulated_by}

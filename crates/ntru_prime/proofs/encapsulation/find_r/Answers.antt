@@ -1,4 +1,4 @@
-use Rattle.std.proofs.Common.{◌≡◌, refl, ap, ◌∙◌, length, pos, arith}
+use Rattle.std.proofs.Common.{refl, ap, ◌∙◌, length, pos, arith}
 use Rattle.std.proofs.lemmas.List.Elements.{All-same}
 use Rattle.ring_poly.specs.Ring.{IsCentred}
 use Rattle.ntru_model.proofs.Residues.{all_centred}

@@ -1,5 +1,5 @@
-use Rattle.std.proofs.Common.{◌≡◌, ◌+◌, ◌/◌, ap, ap₂, ◌∙◌, length, take, drop, arith}
-use Rattle.ntru_prime.proofs.PairFacts.{pair_len, pair_parts}
+use Rattle.std.proofs.Common.{◌+◌, ◌/◌, ap, ap₂, ◌∙◌, length, take, drop, arith}
+use Rattle.ntru_prime.proofs.PairFacts.{pair_len}
 use Rattle.ntru_prime.proofs.encapsulation.rho_of.Goals as goal
 
 pub part-requires : goal.part-requires

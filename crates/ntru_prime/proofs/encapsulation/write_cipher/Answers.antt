@@ -1,4 +1,3 @@
-use Rattle.std.proofs.Common.{◌≡◌, ◌/◌}
 use Rattle.ntru_prime.proofs.Sums.{six_form}
 use Rattle.ntru_prime.proofs.Encapsulates.{cipher_by}
 use Rattle.ntru_prime.proofs.encapsulation.write_cipher.Goals as goal

@@ -1,8 +1,6 @@
-use Rattle.std.proofs.Common.{◌≡◌, ◌*◌, ◌/◌, ◌<◌, pos, ◌-ℤ◌, arith, rules, ap, ◌∙◌, SFits, w16}
+use Rattle.std.proofs.Common.{◌/◌, ◌<◌, pos, ◌-ℤ◌, arith, rules, ◌∙◌, SFits, w16}
 use Rattle.std.proofs.lemmas.Int.{to_z-of_z}
 use Rattle.std.proofs.lemmas.List.Elements.{All-get_or}
-use Rattle.ring_poly.specs.Ring.{IsCentred}
-use Rattle.ntru_model.specs.Encodings.{digit_of}
 use Rattle.ntru_prime.proofs.Loops.{map_step, map_end}
 use Rattle.ntru_prime.proofs.encodings.coefficients_of.Goals as goal
 

@@ -1,5 +1,4 @@
-use Rattle.std.proofs.Common.{◌≡◌, ◌*◌, ◌/◌, take, map, pos, ◌-ℤ◌}
-use Rattle.ntru_model.specs.Encodings.{digit_of}
+use Rattle.std.proofs.Common.{◌≡◌, ◌/◌, take, map, pos, ◌-ℤ◌}
 use Rattle.ntru_prime.proofs.encodings.coefficients_of.Given as goal
 
 abbrev pub invariant-loop-i : goal.invariant-loop-i

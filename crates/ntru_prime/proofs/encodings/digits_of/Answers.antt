@@ -1,4 +1,4 @@
-use Rattle.std.proofs.Common.{◌≡◌, refl, ◌+◌, ◌/◌, ◌<◌, ℤ, pos, get_or, arith, rules, ap, sym, subst, ◌∙◌, SFits, to_z, of_z, w16}
+use Rattle.std.proofs.Common.{◌≡◌, refl, ◌<◌, ℤ, pos, get_or, arith, rules, ap, sym, subst, ◌∙◌, SFits, to_z, of_z, w16}
 use Rattle.std.proofs.lemmas.Int.{to_z-of_z}
 use Rattle.std.proofs.lemmas.List.Elements.{All-get_or}
 use Rattle.ring_poly.specs.Ring.{IsCentred}

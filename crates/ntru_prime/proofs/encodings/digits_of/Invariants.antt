@@ -1,4 +1,4 @@
-use Rattle.std.proofs.Common.{◌≡◌, ◌+◌, ◌/◌, ◌<◌, take, map, All}
+use Rattle.std.proofs.Common.{◌≡◌, ◌<◌, take, map, All}
 use Rattle.ntru_model.specs.Encodings.{digit_of}
 use Rattle.ntru_prime.proofs.encodings.digits_of.Given as goal
 

@@ -1,4 +1,4 @@
-use Rattle.std.proofs.Common.{◌≡◌, ap, ◌∙◌}
+use Rattle.std.proofs.Common.{ap, ◌∙◌}
 use Rattle.ntru_codec.specs.Mixed.{mixed_len}
 use Rattle.ntru_prime.proofs.SetFacts.{public_few_by}
 use Rattle.ntru_prime.proofs.encodings.public_len.Goals as goal

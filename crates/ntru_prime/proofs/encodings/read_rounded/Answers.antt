@@ -1,4 +1,4 @@
-use Rattle.std.proofs.Common.{◌≡◌, arith, ◌∙◌}
+use Rattle.std.proofs.Common.{arith}
 use Rattle.ntru_prime.proofs.Loops.{on_some, is_there, is_absent}
 use Rattle.ntru_prime.proofs.DigitReads.{rounded_by, rounded_none_by}
 use Rattle.ntru_prime.proofs.encodings.read_rounded.Goals as goal

@@ -1,4 +1,4 @@
-use Rattle.std.proofs.Common.{◌≡◌, ap, ◌∙◌, take, ◌++◌}
+use Rattle.std.proofs.Common.{ap, ◌∙◌, take, ◌++◌}
 use Rattle.sha2.specs.Sha512.{sha512}
 use Rattle.ntru_model.specs.Pairs.{hash}
 use Rattle.ntru_prime.proofs.hashes.hash_both.Goals as goal

@@ -1,4 +1,4 @@
-use Rattle.std.proofs.Common.{◌≡◌, ap, ◌∙◌, arith, pos}
+use Rattle.std.proofs.Common.{ap, ◌∙◌, arith, pos}
 use Rattle.ring_laws.specs.Laws.{multiple_of}
 use Rattle.ntru_model.proofs.Inverses.{inverse_of}
 use Rattle.ntru_prime.proofs.Sums.{triple_centred}

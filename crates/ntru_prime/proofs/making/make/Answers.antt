@@ -1,4 +1,4 @@
-use Rattle.std.proofs.Common.{◌≡◌, ap, ap₂, sym, ◌∙◌, ◌+◌, ◌/◌, Some, length, pos, unsigned_abs, to_z, w32, arith, rules}
+use Rattle.std.proofs.Common.{◌≡◌, ap, ap₂, sym, ◌∙◌, ◌+◌, ◌/◌, Some, length, unsigned_abs, to_z, w32, arith, rules}
 use Rattle.std.proofs.lemmas.Grind.{common_steps}
 use Rattle.std.specs.Option.{option_map}
 use Rattle.std.proofs.lemmas.List.{length-take}
@@ -9,7 +9,7 @@ use Rattle.ntru_model.specs.Draws.{bytes_draw}
 use Rattle.ntru_model.specs.Residues.{product_mod}
 use Rattle.ntru_model.proofs.Small.{all_within_small}
 use Rattle.ntru_prime.specs.Sets.{parameters, pair_with}
-use Rattle.ntru_prime.proofs.Sums.{product_by, from_natural}
+use Rattle.ntru_prime.proofs.Sums.{product_by}
 use Rattle.ntru_prime.proofs.Makes.{made_without_g, made_without_f, g_centred_q, f_inverse_is, drawn_is, made_is, reads, secret_same}
 use Rattle.ntru_prime.proofs.making.make.Goals as goal
 

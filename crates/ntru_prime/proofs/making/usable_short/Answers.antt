@@ -1,4 +1,4 @@
-use Rattle.std.proofs.Common.{◌≡◌, refl, ap, ◌∙◌, arith, pos, unsigned_abs, to_z, w32}
+use Rattle.std.proofs.Common.{◌∙◌, arith, pos, unsigned_abs, to_z, w32}
 use Rattle.ring_laws.specs.Laws.{multiple_of}
 use Rattle.ntru_model.specs.Draws.{short_draw}
 use Rattle.ntru_model.specs.Residues.{inverse_mod}

@@ -1,4 +1,4 @@
-use Rattle.std.proofs.Common.{◌≡◌, refl, ap, ◌∙◌, arith}
+use Rattle.std.proofs.Common.{ap, ◌∙◌, arith}
 use Rattle.ntru_model.specs.Draws.{small_draw}
 use Rattle.ntru_model.specs.Residues.{inverse_mod}
 use Rattle.ntru_model.proofs.Inverses.{inverse_of}

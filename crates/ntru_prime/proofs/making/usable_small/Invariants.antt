@@ -1,5 +1,4 @@
-use Rattle.std.proofs.Common.{◌≡◌, ◌-◌, pos, unsigned_abs, to_z, w32}
-use Rattle.ring_laws.specs.Laws.{multiple_of}
+use Rattle.std.proofs.Common.{◌≡◌, ◌-◌}
 use Rattle.ntru_model.specs.Draws.{first_invertible, small_draw}
 use Rattle.ntru_model.specs.Residues.{inverse_mod}
 use Rattle.ntru_prime.proofs.making.usable_small.Given as goal

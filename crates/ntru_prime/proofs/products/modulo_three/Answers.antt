@@ -1,7 +1,5 @@
-use Rattle.std.proofs.Common.{◌≡◌, ◌<◌, pos, ◌*ℤ◌, get_or, length, arith, rules, ap, sym, subst, ◌∙◌, SFits, to_z, of_z, w16}
+use Rattle.std.proofs.Common.{◌≡◌, pos, get_or, arith, rules, ap, ◌∙◌, SFits, to_z, of_z, w16}
 use Rattle.std.proofs.lemmas.Int.{to_z-of_z}
-use Rattle.std.proofs.lemmas.List.Elements.{All-get_or}
-use Rattle.ntru_codec.specs.Small.{IsSmall}
 use Rattle.ntru_model.specs.Residues.{centred}
 use Rattle.ntru_prime.proofs.Loops.{map_step, map_end}
 use Rattle.ntru_prime.proofs.products.modulo_three.Goals as goal

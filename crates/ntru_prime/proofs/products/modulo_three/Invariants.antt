@@ -1,4 +1,4 @@
-use Rattle.std.proofs.Common.{◌≡◌, take, map, pos, ◌*ℤ◌}
+use Rattle.std.proofs.Common.{◌≡◌, take, map}
 use Rattle.ntru_model.specs.Residues.{centred}
 use Rattle.ntru_prime.proofs.products.modulo_three.Given as goal
 

@@ -1,5 +1,4 @@
 use Rattle.std.proofs.Common.{◌≡◌, take, map, pos, ◌*ℤ◌}
-use Rattle.ntru_model.specs.Residues.{centred}
 use Rattle.ntru_prime.proofs.products.triple.Given as goal
 
 abbrev pub invariant-loop-i : goal.invariant-loop-i

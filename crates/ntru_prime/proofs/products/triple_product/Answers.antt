@@ -1,4 +1,4 @@
-use Rattle.std.proofs.Common.{◌≡◌, ◌∙◌, ap, pos, unsigned_abs}
+use Rattle.std.proofs.Common.{◌∙◌, ap}
 use Rattle.ntru_model.specs.Residues.{product_mod}
 use Rattle.ntru_prime.proofs.Sums.{triple_centred, product_by}
 use Rattle.ntru_prime.proofs.products.triple_product.Goals as goal

@@ -1,4 +1,4 @@
-use Rattle.std.proofs.Common.{◌≡◌, ap, ◌∙◌, length, drop, ◌*◌, ◌+◌, ◌/◌, arith}
+use Rattle.std.proofs.Common.{ap, ◌∙◌, length, drop, ◌*◌, ◌+◌, ◌/◌, arith}
 use Rattle.std.proofs.lemmas.List.{length-take, length-drop}
 use Rattle.ntru_prime.proofs.PairFacts.{pair_len}
 use Rattle.ntru_prime.proofs.reading.copy_public.Goals as goal

@@ -1,9 +1,8 @@
-use Rattle.std.proofs.Common.{◌≡◌, refl, ap, sym, ◌∙◌, ◌+◌, ◌/◌, ℕ, List, take, drop, Some, to_z, w32, arith, rules, nat_eq, true}
+use Rattle.std.proofs.Common.{◌≡◌, ap, sym, ◌∙◌, ◌+◌, ◌/◌, take, drop, Some, to_z, w32, arith, rules, nat_eq, true}
 use Rattle.std.specs.Cmp.Lexicographic.{pointwise}
 use Rattle.std.proofs.lemmas.Grind.{common_steps}
 use Rattle.std.proofs.lemmas.List.Elements.{All-same}
 use Rattle.ntru_codec.specs.Small.{IsSmall}
-use Rattle.ntru_model.specs.Parameters.{small_len, public_len}
 use Rattle.ntru_model.specs.Pairs.{KeyPair, fields_read, is_tested, secret_key, secret_read}
 use Rattle.ntru_prime.specs.Sets.{set_of, parameters, pair_with}
 use Rattle.ntru_prime.proofs.Loops.{on_some, is_there}

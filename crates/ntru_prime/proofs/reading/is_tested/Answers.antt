@@ -1,4 +1,4 @@
-use Rattle.std.proofs.Common.{◌≡◌, eq-eqb, ap, ◌∙◌, nat_eq, true, false, arith, rules, to_z, w32}
+use Rattle.std.proofs.Common.{◌≡◌, eq-eqb, nat_eq, true, false, arith, rules, to_z, w32}
 use Rattle.std.proofs.lemmas.Grind.{common_steps}
 use Rattle.std.specs.List.{count_by}
 use Rattle.ring_laws.specs.Laws.{is_nonzero}

@@ -1,4 +1,4 @@
-use Rattle.std.proofs.Common.{◌≡◌, ap, ap₂, ◌∙◌, Some, None, take, drop, to_z, w32, arith}
+use Rattle.std.proofs.Common.{ap, ap₂, ◌∙◌, Some, None, take, drop, to_z, w32, arith}
 use Rattle.ntru_model.specs.Encodings.{public_read}
 use Rattle.ntru_prime.specs.Sets.{set_of}
 use Rattle.ntru_prime.proofs.Loops.{on_some, is_there, is_absent}

@@ -1,5 +1,6 @@
 use Rattle.std.proofs.Common.{◌+◌, sym, ap, ◌∙◌, arith}
-use Rattle.ntru_prime.proofs.SetFacts.{little_core, little_set}
+use Rattle.ntru_prime.specs.Lengths.{little_core}
+use Rattle.ntru_prime.proofs.SetFacts.{little_set}
 use Rattle.ntru_prime.proofs.sets.Drill37Kem.decap.Goals as goal
 
 pub decap-requires : goal.decap-requires

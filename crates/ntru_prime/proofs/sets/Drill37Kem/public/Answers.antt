@@ -1,5 +1,6 @@
 use Rattle.std.proofs.Common.{sym, ◌∙◌, arith}
-use Rattle.ntru_prime.proofs.SetFacts.{little_public, little_set}
+use Rattle.ntru_prime.specs.Lengths.{little_public}
+use Rattle.ntru_prime.proofs.SetFacts.{little_set}
 use Rattle.ntru_prime.proofs.sets.Drill37Kem.public.Goals as goal
 
 pub copy_public-requires : goal.copy_public-requires

@@ -1,5 +1,5 @@
 use Rattle.std.proofs.Common.{◌+◌, sym, ap, ◌∙◌}
-use Rattle.ntru_prime.proofs.SetFacts.{large_core}
+use Rattle.ntru_prime.specs.Lengths.{large_core}
 use Rattle.ntru_prime.proofs.sets.Sntrup761Kem.encap.Goals as goal
 
 pub encap-requires-clause-room : goal.encap-requires-clause-room
