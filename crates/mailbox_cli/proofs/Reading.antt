@@ -1,9 +1,9 @@
 -- How the reading of words goes on.
-use Rattle.std.proofs.Common.{◌≡◌, ℕ, ◌+◌, ◌*◌, ◌<◌, ◌≤◌, ◌==◌, true, false, List, [], ◌∷◌, ◌++◌, length, take, drop, get_or, set, Option, Some, None, codes, refl, sym, ◌∙◌, ap, arith, append_assoc}
+use Rattle.std.proofs.Common.{◌≡◌, ℕ, ◌+◌, ◌*◌, ◌<◌, ◌≤◌, ◌==◌, true, List, [], ◌∷◌, ◌++◌, length, take, drop, get_or, set, Option, Some, None, refl, sym, ◌∙◌, ap, arith, append_assoc}
 use Rattle.std.proofs.lemmas.Bool.Decides.{nat_tests}
-use Rattle.std.proofs.lemmas.List.{drop_more, take_more, take_more_set, take_all, drop_all, append-nil}
+use Rattle.std.proofs.lemmas.List.{drop_more, take_more_set, take_all, drop_all, append-nil}
 use Rattle.std.specs.Option.{option_and_then, option_map}
-use Rattle.mailbox_cli.specs.Words.{is_word, is_option, values_of, init_of, id_of, byte_of, bytes_of_digits, without_values}
+use Rattle.mailbox_cli.specs.Words.{init_of, id_of, byte_of, bytes_of_digits, without_values}
 use Rattle.mailbox_cli.specs.declared.command.Command.{Command}
 
 -- what was read, in front of what the rest stands for
@@ -15,50 +15,11 @@ in_front-push : {A : Type 0} (front : List A) (x : A) (rest : Option (List A)) �
 in_front-push front x None = refl
 in_front-push front x (Some xs) = ap Some (sym (append_assoc front (x ∷ []) xs))
 
--- a value more
-pub values_more : (words : List (List ℕ)) (i : ℕ) (word : List ℕ) → i < length words → word ≡ get_or words i word → is_word word (codes "--") ≡ false → is_option word ≡ false
-    → values_of words ≡ in_front (take i words) (values_of (drop i words)) → values_of words ≡ in_front (take (i + 1) words) (values_of (drop (i + 1) words))
-values_more words i word within is plain fine so_far =
-    so_far ∙ ap (λ (ws : List (List ℕ)). in_front (take i words) (values_of ws)) (drop_more words i word within)
-    ∙ ap (λ (w : List ℕ). in_front (take i words) (values_of (w ∷ drop (i + 1) words))) (sym is)
-    ∙ rest
-    ∙ in_front-push (take i words) word (values_of (drop (i + 1) words))
-    ∙ ap (λ (ws : List (List ℕ)). in_front ws (values_of (drop (i + 1) words))) (ap (λ (w : List ℕ). take i words ++ w ∷ []) is ∙ sym (take_more words i word within))
-  where
-    rest : in_front (take i words) (values_of (word ∷ drop (i + 1) words)) ≡ in_front (take i words) (option_map (λ values. word ∷ values) (values_of (drop (i + 1) words)))
-    rest = rw (plain, fine) refl
-
--- the end of the options
-pub values_end : (words : List (List ℕ)) (i : ℕ) (word : List ℕ) → i < length words → word ≡ get_or words i word → is_word word (codes "--") ≡ true
-    → values_of words ≡ in_front (take i words) (values_of (drop i words)) → values_of words ≡ Some (take i words ++ drop (i + 1) words)
-values_end words i word within is ends so_far =
-    so_far ∙ ap (λ (ws : List (List ℕ)). in_front (take i words) (values_of ws)) (drop_more words i word within)
-    ∙ ap (λ (w : List ℕ). in_front (take i words) (values_of (w ∷ drop (i + 1) words))) (sym is) ∙ rest
-  where
-    rest : in_front (take i words) (values_of (word ∷ drop (i + 1) words)) ≡ Some (take i words ++ drop (i + 1) words)
-    rest = rw ends refl
-
--- an option is refused
-pub values_none : (words : List (List ℕ)) (i : ℕ) (word : List ℕ) → i < length words → word ≡ get_or words i word → is_word word (codes "--") ≡ false → is_option word ≡ true
-    → values_of words ≡ in_front (take i words) (values_of (drop i words)) → values_of words ≡ None
-values_none words i word within is plain option so_far =
-    so_far ∙ ap (λ (ws : List (List ℕ)). in_front (take i words) (values_of ws)) (drop_more words i word within)
-    ∙ ap (λ (w : List ℕ). in_front (take i words) (values_of (w ∷ drop (i + 1) words))) (sym is) ∙ rest
-  where
-    rest : in_front (take i words) (values_of (word ∷ drop (i + 1) words)) ≡ None
-    rest = rw (plain, option) refl
-
 -- the digits at twice an index
 pub two_more : (word : List ℕ) (i : ℕ) → 2 * i + 1 < length word → drop (2 * i) word ≡ get_or word (2 * i) 0 ∷ get_or word (2 * i + 1) 0 ∷ drop (2 * (i + 1)) word
 two_more word i within =
     drop_more word (2 * i) 0 (omega arith)
     ∙ ap (λ (l : List ℕ). get_or word (2 * i) 0 ∷ l) (drop_more word (2 * i + 1) 0 within ∙ ap (λ (k : ℕ). get_or word (2 * i + 1) 0 ∷ drop k word) (omega arith))
-
-pub id_none : (word id : List ℕ) (i : ℕ) → 2 * i + 1 < length word → byte_of (get_or word (2 * i) 0) (get_or word (2 * i + 1) 0) ≡ None
-    → bytes_of_digits word ≡ in_front (take i id) (bytes_of_digits (drop (2 * i) word)) → bytes_of_digits word ≡ None
-id_none word id i within none so_far =
-    so_far ∙ ap (λ (l : List ℕ). in_front (take i id) (bytes_of_digits l)) (two_more word i within)
-    ∙ ap (λ (b : Option ℕ). in_front (take i id) (option_and_then (λ byte. option_map (λ bytes. byte ∷ bytes) (bytes_of_digits (drop (2 * (i + 1)) word))) b)) none
 
 pub id_more : (word id : List ℕ) (i b : ℕ) → 2 * i + 1 < length word → i < length id → byte_of (get_or word (2 * i) 0) (get_or word (2 * i + 1) 0) ≡ Some b
     → bytes_of_digits word ≡ in_front (take i id) (bytes_of_digits (drop (2 * i) word)) → bytes_of_digits word ≡ in_front (take (i + 1) (set id i b)) (bytes_of_digits (drop (2 * (i + 1)) word))

@@ -1,10 +1,9 @@
 -- The record of an `init`, and the steps that records stand for.
-use Rattle.std.proofs.Common.{◌≡◌, ℕ, ◌+◌, ◌≤◌, ◌==◌, true, false, IsSome, is_some, List, [], ◌∷◌, ◌++◌, length, take, drop, map, slice_get, Option, Some, None, Ok, Err, refl, ◌∙◌, ap, arith, length-append}
+use Rattle.std.proofs.Common.{◌≡◌, ℕ, ◌+◌, ◌≤◌, ◌==◌, true, false, is_some, List, [], ◌∷◌, ◌++◌, length, take, drop, map, slice_get, Option, Some, None, Ok, Err, refl, ◌∙◌, ap, arith, length-append}
 use Rattle.std.proofs.lemmas.Bool.Decides.{nat_tests}
 use Rattle.std.proofs.lemmas.List.{take_at, drop_at, drop_all, append-nil}
 use Rattle.std.specs.Option.{option_to_list}
 use Rattle.kem_trait.specs.declared.kem.Kem.{Ghosts as KemGhosts}
-use Rattle.member_identity.specs.Identity.{secret_from}
 use Rattle.member_journal.specs.Format.{Entry, journal_of}
 use Rattle.mailbox_cli.specs.Steps.{Step, record_of, is_init, has_key, step_of, member_of, steps_behind, steps_in, steps_among, steps_of}
 
@@ -41,21 +40,11 @@ module _ {K P : Type 0} (kem : KemGhosts K P) where
       let key : has_key kem (step_of (record_of kem step)).random ≡ true = ap (λ (s : Step). has_key kem s.random) (step_of-record_of step inviter) ∙ usable in
       rw (init, key) (ap Some (step_of-record_of step inviter))
 
-  pub has_key-of : (random : List ℕ) → IsSome (secret_from kem random) → has_key kem random ≡ true
-  has_key-of random some = some
-
-  pub has_no_key : (random : List ℕ) → secret_from kem random ≡ None → has_key kem random ≡ false
-  has_no_key random none = ap is_some none
-
   -- one record
   pub steps_of_one : (bytes : List ℕ) (place : ℕ) (step : Step) → length step.inviter ≡ 32 → length step.random ≡ 32 → has_key kem step.random ≡ true
       → journal_of bytes ≡ Ok (record { place = place; bytes = record_of kem step } ∷ []) → steps_of kem bytes ≡ Ok (step ∷ [])
   steps_of_one bytes place step inviter random usable is =
       ap (steps_among kem) is ∙ ap (λ (m : Option Step). steps_behind m place []) (member_of-record_of step inviter random usable)
-
-  -- no record
-  pub steps_of_none : (bytes : List ℕ) (entries : List Entry) → journal_of bytes ≡ Ok entries → entries ≡ [] → steps_of kem bytes ≡ Ok []
-  steps_of_none bytes entries is none = ap (steps_among kem) is ∙ ap (steps_in kem) none
 
   -- the first record makes no member
   pub first_other : (bytes first : List ℕ) (entries : List Entry) (place : ℕ) → journal_of bytes ≡ Ok entries → slice_get (map (λ entry. entry.bytes) entries) 0 ≡ Some first

@@ -1,6 +1,6 @@
 -- What a run leaves on the disk, by the ways in which it ends.
-use Rattle.std.proofs.Common.{◌≡◌, ◌⊎◌, inl, inr, ⊎_elim, ℕ, true, false, List, [], ◌∷◌, ◌++◌, length, map, Option, Result, Ok, Err, refl, sym, ◌∙◌, ap, subst, arith, length-append}
-use Rattle.std.proofs.lemmas.List.{append-nil, drop_all, drop_at, length-map}
+use Rattle.std.proofs.Common.{◌≡◌, ◌⊎◌, inl, inr, ⊎_elim, ℕ, true, List, [], ◌∷◌, ◌++◌, length, map, Option, Result, Ok, Err, refl, sym, ◌∙◌, ap, subst, arith, length-append}
+use Rattle.std.proofs.lemmas.List.{drop_at, length-map}
 use Rattle.std.specs.List.{filter}
 use Rattle.group_fields.specs.declared.ids.MemberId.{MemberId}
 use Rattle.disk_trait.specs.Disk.{LeavesOnly, Throughout}
@@ -49,12 +49,6 @@ ends_unsure NoMemory ended failed lacked never = nine ended (lacked refl)
 ends_unsure (NotJournal place) ended failed lacked never = absurd (never place refl)
 
 module _ {K P : Type 0} (kem : KemGhosts K P) where
-  -- the steps that were planned, by what was drawn
-  pub plan_none : (inviter : Option MemberId) (before after : List (List ℕ)) → after ≡ before → planned kem inviter before after ≡ []
-  plan_none inviter before after same =
-      ap (λ (seeds : List (List ℕ)). planned kem inviter before seeds) same
-      ∙ ap (λ (seeds : List (List ℕ)). map (init_step inviter) (filter (has_key kem) seeds)) (drop_all (length before) before (omega arith))
-
   plan_of_one : (inviter : Option MemberId) (before after : List (List ℕ)) (random : List ℕ) → after ≡ before ++ random ∷ []
       → planned kem inviter before after ≡ map (init_step inviter) (filter (has_key kem) (random ∷ []))
   plan_of_one inviter before after random grown =
@@ -65,41 +59,7 @@ module _ {K P : Type 0} (kem : KemGhosts K P) where
       → planned kem inviter before after ≡ init_step inviter random ∷ []
   plan_one inviter before after random grown usable = plan_of_one inviter before after random grown ∙ rw usable refl
 
-  pub plan_unusable : (inviter : Option MemberId) (before after : List (List ℕ)) (random : List ℕ) → after ≡ before ++ random ∷ [] → has_key kem random ≡ false
-      → planned kem inviter before after ≡ []
-  plan_unusable inviter before after random grown unusable = plan_of_one inviter before after random grown ∙ rw unusable refl
-
   module _ {D : Type 0} (disks : DiskGhosts D) (plan : List Step) (disk disk' : D) (ended : Ended) where
-    -- nothing is planned, and the disk was only read
-    pub quiet : plan ≡ [] → OnlyReads disks.content disks.image disks.clock disks.image_since disk disk'
-        → ((steps : List Step) → steps_of kem (disks.content disk) ≡ Ok steps → (IsUnsure ended → ⊥) → LeavesOnly (disks.content disk) (disks.image disk'))
-        → Stored kem disks plan disk disk' ended
-    quiet none read settled = record {
-      reads = λ steps is. inl (ap (steps_of kem) read.stays ∙ is ∙ ap okay (sym (append-nil steps) ∙ ap (λ (ss : List Step). steps ++ ss) (sym none)));
-      accepted = λ some. absurd (some none);
-      moments = throughout_weaker disks.clock disks.image_since disk disk' (disks.image disk)
-          (λ image. disks.image disk image ⊎ ((steps : List Step) → steps_of kem (disks.content disk) ≡ Ok steps → StandsForSome kem steps plan image))
-          (λ image old. inl old) read.moments;
-      images = λ steps is opened image now. inl (ap (steps_of kem) (settled steps is (λ unsure. opened unsure none) image now) ∙ is);
-    }
-
-    pub quiet_lasts : plan ≡ [] → LeavesOnly (disks.content disk) (disks.image disk') → IsDurable kem disks plan disk disk'
-    quiet_lasts none settled steps is image now =
-        ap (steps_of kem) (settled image now) ∙ is ∙ ap okay (sym (append-nil steps) ∙ ap (λ (ss : List Step). steps ++ ss) (sym none))
-
-    -- the journal did not open
-    pub not_opened : {S : Type 0} (out out' : S) (fault : JournalFault) → (fault ≡ DiskFault → (ended ≡ ended_with 4) × (out' ≡ out)) → (fault ≡ NoMemory → (ended ≡ ended_with 9) × (out' ≡ out))
-        → ((place : ℕ) → fault ≡ NotJournal place → steps_of kem (disks.content disk) ≡ Err place) → plan ≡ []
-        → OnlyReads disks.content disks.image disks.clock disks.image_since disk disk' → Stored kem disks plan disk disk' ended
-    not_opened out out' fault failed lacked other none read = quiet none read (λ steps is sure. absurd (never fault failed lacked other steps is sure))
-      where
-        never : (fault : JournalFault) → (fault ≡ DiskFault → (ended ≡ ended_with 4) × (out' ≡ out)) → (fault ≡ NoMemory → (ended ≡ ended_with 9) × (out' ≡ out))
-            → ((place : ℕ) → fault ≡ NotJournal place → steps_of kem (disks.content disk) ≡ Err place)
-            → (steps : List Step) → steps_of kem (disks.content disk) ≡ Ok steps → (IsUnsure ended → ⊥) → ⊥
-        never DiskFault failed lacked other steps is sure = sure (four ended (failed refl).0)
-        never NoMemory failed lacked other steps is sure = sure (nine ended (lacked refl).0)
-        never (NotJournal place) failed lacked other steps is sure = let clash : okay steps ≡ Err place = sym is ∙ other place refl in cc
-
     pub not_opened_lasts : {S : Type 0} (sinks : SinkGhosts S) (out out' : S) (fault : JournalFault) → (fault ≡ DiskFault → (ended ≡ ended_with 4) × (out' ≡ out)) → (fault ≡ NoMemory → (ended ≡ ended_with 9) × (out' ≡ out))
         → ((place : ℕ) → fault ≡ NotJournal place → steps_of kem (disks.content disk) ≡ Err place) → IsAcknowledged sinks out out' ended → IsDurable kem disks plan disk disk'
     not_opened_lasts sinks out out' fault failed lacked other acknowledged steps is image now = absurd (never fault failed lacked other)
@@ -109,18 +69,6 @@ module _ {K P : Type 0} (kem : KemGhosts K P) where
         never DiskFault failed lacked other = not_acknowledged sinks out out' ended (four ended (failed refl).0) (failed refl).1 acknowledged
         never NoMemory failed lacked other = not_acknowledged sinks out out' ended (nine ended (lacked refl).0) (lacked refl).1 acknowledged
         never (NotJournal place) failed lacked other = let clash : okay steps ≡ Err place = sym is ∙ other place refl in cc
-
-    -- there is no member, the disk was only read, and what was planned is missing
-    pub untouched : steps_of kem (disks.content disk) ≡ Ok [] → IsUnsure ended → OnlyReads disks.content disks.image disks.clock disks.image_since disk disk'
-        → LeavesOnly (disks.content disk) (disks.image disk') → Stored kem disks plan disk disk' ended
-    untouched absent kind read settled = record {
-      reads = λ steps is. inr (kind, ap (steps_of kem) read.stays ∙ is);
-      accepted = λ some. absent;
-      moments = throughout_weaker disks.clock disks.image_since disk disk' (disks.image disk)
-          (λ image. disks.image disk image ⊎ ((steps : List Step) → steps_of kem (disks.content disk) ≡ Ok steps → StandsForSome kem steps plan image))
-          (λ image old. inl old) read.moments;
-      images = λ steps is opened image now. inl (ap (steps_of kem) (settled image now) ∙ is);
-    }
 
     module _ (step : Step) (one : plan ≡ step ∷ []) (absent : steps_of kem (disks.content disk) ≡ Ok [])
         (run : Throughout disks.clock disks.image_since disk disk' (StandsForSome kem [] (step ∷ []))) where
@@ -177,10 +125,6 @@ module _ {K P : Type 0} (kem : KemGhosts K P) where
         read.moments later.moments);
     images = λ steps is was image here. later.images steps (ap (steps_of kem) read.stays ∙ is) was image here;
   }
-
-  pub lasts_after_opening : {D : Type 0} (disks : DiskGhosts D) (plan : List Step) (disk opened disk' : D) → disks.content opened ≡ disks.content disk
-      → IsDurable kem disks plan opened disk' → IsDurable kem disks plan disk disk'
-  lasts_after_opening disks plan disk opened disk' stays later steps is image here = later steps (ap (steps_of kem) stays ∙ is) image here
 
   -- what a journal without records stands for before and after an append
   pub stands_for_some : (entries : List Entry) (entry : Entry) (step : Step) (bytes : List ℕ) → entries ≡ [] → entry.bytes ≡ record_of kem step → length step.inviter ≡ 32 → length step.random ≡ 32
