@@ -1,11 +1,12 @@
 -- The laws for the two sets.
 use Rattle.std.proofs.Common.{◌≡◌, ◌⊎◌, ℕ, Some, List, length, All, ℤ, pos, sym, ap, ◌∙◌}
 use Rattle.ring_poly.specs.Ring.{IsCentred}
+use Rattle.kem_trait.specs.Encapsulated.{Encapsulated}
 use Rattle.ntru_model.specs.Parameters.{Parameters, sntrup761, drill37, public_len, secret_len}
 use Rattle.ntru_model.specs.Draws.{Stream}
 use Rattle.ntru_model.specs.Encodings.{public_encoding, public_read}
 use Rattle.ntru_model.specs.Pairs.{KeyPair, pair_drawn, public_key, secret_key, secret_read}
-use Rattle.ntru_model.specs.Encapsulation.{Encapsulated, encapsulated, decapsulated_by}
+use Rattle.ntru_model.specs.Encapsulation.{encapsulated, decapsulated_by}
 use Rattle.ntru_model.proofs.Sets.{is_set}
 use Rattle.ntru_model.proofs.Bytes.{public_back, from_public_read, length-public}
 use Rattle.ntru_model.proofs.Tested.{IsTested, HasParts, tested_from_read, read_back, rho_from_read, length-secret, parts_from_read}

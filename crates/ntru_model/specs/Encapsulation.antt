@@ -4,17 +4,13 @@ use Rattle.std.specs.List.{count_by}
 use Rattle.std.specs.Option.{option_map, option_and_then}
 use Rattle.std.specs.Cmp.Lexicographic.{pointwise}
 use Rattle.ring_laws.specs.Laws.{multiple_of, is_nonzero}
+use Rattle.kem_trait.specs.Encapsulated.{Encapsulated}
 use Rattle.ntru_codec.specs.Small.{small_encoding}
 use Rattle.ntru_model.specs.Parameters.{Parameters, core_len}
 use Rattle.ntru_model.specs.Residues.{centred, product_mod, nearest_triple}
 use Rattle.ntru_model.specs.Draws.{Stream, short_draw}
 use Rattle.ntru_model.specs.Encodings.{public_read, rounded_encoding, rounded_read}
 use Rattle.ntru_model.specs.Pairs.{KeyPair, hash, public_key, secret_read}
-
--- a ciphertext, and the key that its maker has
-pub record Encapsulated : Type 0 where
-  pub cipher : List ℕ
-  pub key : List ℕ
 
 -- the ciphertext of a short r: h r with each coefficient at its nearest multiple of 3, and a hash of r that binds the
 -- public key

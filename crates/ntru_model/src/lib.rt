@@ -7,12 +7,13 @@ ghost use Rattle.ring_solve.specs.Fields.{one};
 ghost use Rattle.ring_laws.specs.Laws.{HasInverse};
 ghost use Rattle.ntru_codec.specs.Mixed.{mixed_encoding, Spells};
 ghost use Rattle.ntru_codec.specs.Small.{IsSmall, small_encoding, SpellsSmall};
+ghost use Rattle.kem_trait.specs.Encapsulated.{Encapsulated};
 ghost use Rattle.ntru_model.specs.Parameters.{Parameters, sntrup761, drill37, small_len, public_len, core_len, secret_len, cipher_len};
 ghost use Rattle.ntru_model.specs.Residues.{inverse_mod};
 ghost use Rattle.ntru_model.specs.Draws.{Stream, marked, small_coefficient};
 ghost use Rattle.ntru_model.specs.Encodings.{mixed_read, small_read, public_read, public_encoding};
 ghost use Rattle.ntru_model.specs.Pairs.{KeyPair, hash, pair_drawn, public_key, secret_key, secret_read};
-ghost use Rattle.ntru_model.specs.Encapsulation.{Encapsulated, decapsulated, decapsulated_by, encapsulated};
+ghost use Rattle.ntru_model.specs.Encapsulation.{decapsulated, decapsulated_by, encapsulated};
 
 /// What `inverse_mod` gives: the centred polynomial whose product with a is 1, and nothing where a has no inverse.
 pub fn inverts()

@@ -8,13 +8,12 @@ use Rattle.ntru_model.specs.Draws.{Stream, short_draw}
 use Rattle.ntru_model.specs.Residues.{nearest_triple, product_mod}
 use Rattle.ntru_model.specs.Encodings.{public_read, rounded_encoding}
 use Rattle.ntru_model.specs.Pairs.{hash}
-use Rattle.ntru_model.specs.Encapsulation.{answer, cipher_of, key_of, decapsulated, decapsulated_by, r_found, r_of}
-use Rattle.ntru_model.specs.Encapsulation as Model
+use Rattle.ntru_model.specs.Encapsulation.{cipher_of, key_of, encapsulated, encapsulation}
 use Rattle.ntru_model.proofs.Residues.{nearest_list}
 use Rattle.ntru_model.proofs.Sets.{is_set}
 use Rattle.ntru_model.proofs.Bytes.{from_public_read}
 use Rattle.ntru_prime.specs.Sets.{IsSet, set_of}
-use Rattle.ntru_prime.specs.Keys.{encapsulated, is_public}
+use Rattle.ntru_prime.specs.Keys.{is_public}
 use Rattle.ntru_prime.proofs.Sums.{from_natural, product_by}
 
 -- the ciphertext of r
@@ -47,11 +46,10 @@ pub encapsulated_by : {p : ℕ} {q : ℤ} {w : ℕ} → IsSet p q w → (public 
     → Some h ≡ public_read (set_of p q w) public → r ≡ short_draw p w words → digest ≡ hash 3 (small_encoding r) → confirm ≡ hash 2 (digest ++ hash 4 public)
     → cipher ≡ rounded_encoding (set_of p q w) (map nearest_triple (product_mod p (unsigned_abs q) h r)) ++ confirm → key ≡ hash 1 (digest ++ cipher)
     → encapsulated (set_of p q w) public words ≡ Some (record { cipher = cipher; key = key })
-unfolding encapsulated Model.encapsulated cipher_of
+unfolding encapsulated cipher_of
 encapsulated_by {p} {q} {w} set public words h r digest confirm cipher key read drawn digested confirmed ciphered keyed =
-    let s = set_of p q w in
     let whole : cipher ≡ cipher_of (set_of p q w) h public r = ciphered ∙ ap (λ c. rounded_encoding (set_of p q w) (map nearest_triple (product_mod p (unsigned_abs q) h r)) ++ c) (confirmed ∙ ap (λ d. hash 2 (d ++ hash 4 public)) digested) in
     let its_key : key ≡ key_of r cipher = keyed ∙ ap (λ d. hash 1 (d ++ cipher)) digested in
-    ap (λ o. option_map (λ e. record { cipher = e.cipher; key = e.key }) (option_map (λ a. Model.encapsulation (set_of p q w) a public (short_draw p w words)) o)) (sym read)
+    ap (option_map (λ a. encapsulation (set_of p q w) a public (short_draw p w words))) (sym read)
     ∙ ap (λ a. Some (record { cipher = cipher_of (set_of p q w) h public a; key = key_of a (cipher_of (set_of p q w) h public a) })) (sym drawn)
     ∙ ap₂ (λ a b. Some (record { cipher = a; key = b })) (sym whole) (sym (its_key ∙ ap (key_of r) whole))

@@ -2,12 +2,11 @@
 use Rattle.std.proofs.Common.{◌≡◌, ◌⊎◌, refl, ap, sym, ◌∙◌, ℕ, true, Option, Some, None, IsSome, List, length, is_some}
 use Rattle.std.specs.Option.{option_map}
 use Rattle.kem_trait.specs.Encapsulated.{Encapsulated}
-use Rattle.ntru_model.specs.Parameters.{Parameters, drill37, sntrup761, public_len, cipher_len}
+use Rattle.ntru_model.specs.Parameters.{Parameters, drill37, sntrup761, public_len}
 use Rattle.ntru_model.specs.Draws.{short_draw}
 use Rattle.ntru_model.specs.Encodings.{public_read}
 use Rattle.ntru_model.specs.Pairs.{KeyPair, pair_drawn, secret_key, secret_read}
-use Rattle.ntru_model.specs.Encapsulation.{decapsulated_by}
-use Rattle.ntru_model.specs.Encapsulation as Model
+use Rattle.ntru_model.specs.Encapsulation.{decapsulated_by, encapsulated, encapsulation}
 use Rattle.ntru_model.proofs.Options.{map_parts}
 use Rattle.ntru_model.proofs.Sets.{is_set}
 use Rattle.ntru_model.proofs.DrawnPairs.{drawn_tested}
@@ -15,7 +14,7 @@ use Rattle.ntru_model.proofs.Bytes.{public_back, from_public_read, public_bytes,
 use Rattle.ntru_model.proofs.Tested.{read_back, tested_from_read, parts_from_read}
 use Rattle.ntru_model.proofs.Undone.{decapsulates_law, length-encapsulated}
 use Rattle.ntru_model.proofs.Laws.{known_secret_len}
-use Rattle.ntru_prime.specs.Keys.{made, is_secret, is_public, public_in, encapsulated, decapsulated}
+use Rattle.ntru_prime.specs.Keys.{made, is_secret, is_public, public_in}
 use Rattle.ntru_prime.specs.Lengths.{HasLengths}
 
 abbrev IsKnown : Parameters → Type 0
@@ -55,15 +54,12 @@ public_is_public s known secret h =
 
 -- decapsulation undoes encapsulation
 pub decapsulates : (s : Parameters) → IsKnown s → (secret : List ℕ) (words : ℕ → ℕ) (e : Encapsulated) → is_secret s secret ≡ true
-    → encapsulated s (public_in s secret) words ≡ Some e → decapsulated s secret e.cipher ≡ Some e.key
-unfolding encapsulated
+    → encapsulated s (public_in s secret) words ≡ Some e → decapsulated_by s secret e.cipher ≡ Some e.key
 decapsulates s known secret words e h given =
     let found = secret_from s secret h in
     let set = is_set s known in
     let parts = parts_from_read s secret found.0 set found.1 in
-    let m = map_parts (λ x. record { cipher = x.cipher; key = x.key }) (Model.encapsulated s (public_in s secret) words) e given in
-    let law = decapsulates_law s secret found.0 words m.0 set found.1 (ap (λ bytes. Model.encapsulated s bytes words) (sym parts.h) ∙ m.1) in
-    ap (λ x. decapsulated_by s secret x.cipher) (sym m.2) ∙ law ∙ ap (λ x. Some x.key) m.2
+    decapsulates_law s secret found.0 words e set found.1 (ap (λ bytes. encapsulated s bytes words) (sym parts.h) ∙ given)
 
 -- a secret key of a tested pair has its length
 pub secrets_have_length : {s : Parameters} {of_secret of_public of_cipher : ℕ} → HasLengths s of_secret of_public of_cipher → (secret : List ℕ) → is_secret s secret ≡ true → length secret ≡ of_secret
@@ -87,21 +83,12 @@ some_mapped f (Some a) h = refl
 some_mapped f None h = h
 
 pub encapsulates : (s : Parameters) (public : List ℕ) (words : ℕ → ℕ) → is_public s public ≡ true → IsSome (encapsulated s public words)
-unfolding is_public encapsulated Model.encapsulated
-encapsulates s public words h =
-    some_mapped (λ e. record { cipher = e.cipher; key = e.key }) (Model.encapsulated s public words)
-    (some_mapped (λ a. Model.encapsulation s a public (short_draw s.p s.w words)) (public_read s public) h)
+unfolding is_public encapsulated
+encapsulates s public words h = some_mapped (λ a. encapsulation s a public (short_draw s.p s.w words)) (public_read s public) h
 
 -- what is encapsulated has its lengths
-encapsulated_lengths : (s : Parameters) (public : List ℕ) (words : ℕ → ℕ) (e : Encapsulated) → encapsulated s public words ≡ Some e → (length e.cipher ≡ cipher_len s) × (length e.key ≡ 32)
-unfolding encapsulated
-encapsulated_lengths s public words e h =
-    let m = map_parts (λ x. record { cipher = x.cipher; key = x.key }) (Model.encapsulated s public words) e h in
-    let lengths = length-encapsulated s public words m.0 m.1 in
-    (ap (λ x. length x.cipher) (sym m.2) ∙ lengths.0, ap (λ x. length x.key) (sym m.2) ∙ lengths.1)
-
 pub ciphers_have_length : {s : Parameters} {of_secret of_public of_cipher : ℕ} → HasLengths s of_secret of_public of_cipher → (public : List ℕ) (words : ℕ → ℕ) (e : Encapsulated)
     → encapsulated s public words ≡ Some e → (length e.cipher ≡ of_cipher) × (length e.key ≡ 32)
 ciphers_have_length {s} sizes public words e h =
-    let lengths = encapsulated_lengths s public words e h in
+    let lengths = length-encapsulated s public words e h in
     (lengths.0 ∙ sizes.of_cipher, lengths.1)

@@ -1,13 +1,10 @@
--- The key encapsulation by its bytes.
+-- Pairs and public keys by their bytes.
 use Rattle.std.specs.Prelude.{ℕ, ◌+◌, Bool, Option, List, take, drop, is_some}
 use Rattle.std.specs.Option.{option_map}
-use Rattle.kem_trait.specs.Encapsulated.{Encapsulated}
 use Rattle.ntru_model.specs.Parameters.{Parameters, public_len, small_len}
 use Rattle.ntru_model.specs.Draws.{Stream}
 use Rattle.ntru_model.specs.Encodings.{public_read}
 use Rattle.ntru_model.specs.Pairs.{pair_drawn, secret_key, secret_read}
-use Rattle.ntru_model.specs.Encapsulation.{decapsulated_by}
-use Rattle.ntru_model.specs.Encapsulation as Model
 
 -- the secret key that words give
 unfoldable pub made : Parameters → Stream → Option (List ℕ)
@@ -24,12 +21,3 @@ public_in s secret = take (public_len s) (drop (small_len s + small_len s) secre
 -- the bytes are the encoding of a polynomial of centred coefficients
 unfoldable pub is_public : Parameters → List ℕ → Bool
 is_public s bytes = is_some (public_read s bytes)
-
--- the ciphertext to a public key, and the key in it
-unfoldable pub encapsulated : Parameters → List ℕ → Stream → Option Encapsulated
-encapsulated s public words =
-    option_map (λ e. record { cipher = e.cipher; key = e.key }) (Model.encapsulated s public words)
-
--- the key that a secret key finds in a ciphertext
-abbrev pub decapsulated : Parameters → List ℕ → List ℕ → Option (List ℕ)
-decapsulated s secret cipher = decapsulated_by s secret cipher

@@ -8,9 +8,9 @@ ghost use Rattle.ntru_model.specs.Parameters.{cipher_len};
 ghost use Rattle.ntru_model.specs.Residues.{nearest_triple, product_mod};
 ghost use Rattle.ntru_model.specs.Encodings.{rounded_encoding};
 ghost use Rattle.ntru_model.specs.Pairs.{hash, public_key};
-ghost use Rattle.ntru_model.specs.Encapsulation.{answer, decapsulated_by, r_found, r_of};
+ghost use Rattle.ntru_model.specs.Encapsulation.{answer, decapsulated_by, encapsulated, r_found, r_of};
 ghost use Rattle.ntru_prime.specs.Sets.{IsSet, set_of, pair_with};
-ghost use Rattle.ntru_prime.specs.Keys.{encapsulated, is_public};
+ghost use Rattle.ntru_prime.specs.Keys.{is_public};
 
 use crate::blanks::{blank, blank_cipher};
 use crate::draws::draw_short;

@@ -18,7 +18,8 @@ pub struct Sntrup761;
 pub struct Drill37;
 
 impl Kem for Sntrup761 {
-    ghost use Rattle.ntru_prime.specs.Keys.{decapsulated, encapsulated, is_public, is_secret, made, public_in};
+    ghost use Rattle.ntru_model.specs.Encapsulation.{decapsulated_by, encapsulated};
+    ghost use Rattle.ntru_prime.specs.Keys.{is_public, is_secret, made, public_in};
     ghost use Rattle.ntru_prime.specs.PairKeys.{secret_of};
     ghost use Rattle.ntru_prime.specs.Lengths.{large_lengths};
     ghost use Rattle.ntru_prime.specs.KeyLaws.{is_secret_from, made_is_tested, public_is_public, decapsulates, secrets_have_length, publics_have_length, encapsulates, ciphers_have_length};
@@ -51,7 +52,7 @@ impl Kem for Sntrup761 {
 
     ghost encapsulated = { encapsulated sntrup761 };
 
-    ghost decapsulated = { decapsulated sntrup761 };
+    ghost decapsulated = { decapsulated_by sntrup761 };
 
     ghost secret_key = { secret_of };
 
@@ -105,7 +106,8 @@ impl Kem for Sntrup761 {
 }
 
 impl Kem for Drill37 {
-    ghost use Rattle.ntru_prime.specs.Keys.{decapsulated, encapsulated, is_public, is_secret, made, public_in};
+    ghost use Rattle.ntru_model.specs.Encapsulation.{decapsulated_by, encapsulated};
+    ghost use Rattle.ntru_prime.specs.Keys.{is_public, is_secret, made, public_in};
     ghost use Rattle.ntru_prime.specs.PairKeys.{secret_of};
     ghost use Rattle.ntru_prime.specs.Lengths.{little_lengths};
     ghost use Rattle.ntru_prime.specs.KeyLaws.{is_secret_from, made_is_tested, public_is_public, decapsulates, secrets_have_length, publics_have_length, encapsulates, ciphers_have_length};
@@ -138,7 +140,7 @@ impl Kem for Drill37 {
 
     ghost encapsulated = { encapsulated drill37 };
 
-    ghost decapsulated = { decapsulated drill37 };
+    ghost decapsulated = { decapsulated_by drill37 };
 
     ghost secret_key = { secret_of };
 
