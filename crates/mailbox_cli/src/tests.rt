@@ -42,28 +42,19 @@ fn run_over(alloc: Global, line: &str, disk: MemDisk) -> Result<(MemDisk, Ended,
     Ok((disk, ended, Bytes::copy_of(alloc, out.bytes())?))
 }
 
-/// The end of a run of `card` over a disk, with a mail folder and an output whose calls of these numbers fail: the disk
-/// afterwards, the mail folder, the answer, and what was written. No random bytes are to be had.
+/// A run of `card` over a disk and a mail folder, with an output whose calls of these numbers fail: the disk afterwards, the
+/// answer, and what was written. No random bytes are to be had.
 fn put_card(
     alloc: Global,
     disk: MemDisk,
-    post_failing: &[u32],
-    out_failing: &[u32],
-) -> Result<(MemDisk, MemPost, Ended, Bytes), Fail> {
+    post: &mut MemPost,
+    failing: &[u32],
+) -> Result<(MemDisk, Ended, Bytes), Fail> {
     let words = words_of(alloc, "card")?;
-    let mut post = MemPost::new(alloc, post_failing)?;
     let mut entropy = MemEntropy::new(alloc, &[], &[])?;
-    let mut out = MemSink::new(alloc, out_failing)?;
-    let (disk, ended) = run(
-        alloc,
-        words.as_slice(),
-        disk,
-        &mut post,
-        &mut entropy,
-        &mut out,
-    );
-    let line = Bytes::copy_of(alloc, out.bytes())?;
-    Ok((disk, post, ended, line))
+    let mut out = MemSink::new(alloc, failing)?;
+    let (disk, ended) = run(alloc, words.as_slice(), disk, post, &mut entropy, &mut out);
+    Ok((disk, ended, Bytes::copy_of(alloc, out.bytes())?))
 }
 
 /// The file of a name in a mail folder, or no bytes where there is none.
@@ -273,8 +264,8 @@ fn puts_the_card(rt: HostRuntime) -> Result<(), Fail> {
     let made = made_bytes(0);
     let want = format!(in alloc; "card {CARD_ID}\n")?;
     let name = format!(in alloc; "{CARD_ID}.card")?;
-    let disk = disk_with(alloc, &made)?;
-    let (disk, mut post, ended, line) = put_card(alloc, disk, &[], &[])?;
+    let mut post = MemPost::honest(alloc);
+    let (disk, ended, line) = put_card(alloc, disk_with(alloc, &made)?, &mut post, &[])?;
     assert_eq!(rt; ended, Ended::DONE);
     assert_eq!(rt; line.as_slice(), want.as_bytes());
     assert_eq!(rt; disk.bytes(), made.as_slice());
@@ -282,10 +273,11 @@ fn puts_the_card(rt: HostRuntime) -> Result<(), Fail> {
     let first = file_of(alloc, &mut post, name.as_str())?;
     assert_eq!(rt; first.len(), 1249);
 
-    // The same again.
-    let (_, mut post, ended, line) = put_card(alloc, disk, &[], &[])?;
+    // The same again, over the file that is there.
+    let (_, ended, line) = put_card(alloc, disk, &mut post, &[])?;
     assert_eq!(rt; ended, Ended::DONE);
     assert_eq!(rt; line.as_slice(), want.as_bytes());
+    assert_eq!(rt; post.list()?.as_slice().len(), 1);
     let second = file_of(alloc, &mut post, name.as_str())?;
     assert_eq!(rt; first.as_slice(), second.as_slice());
     Ok(())
@@ -293,12 +285,9 @@ fn puts_the_card(rt: HostRuntime) -> Result<(), Fail> {
 
 #[test]
 fn puts_no_card_without_a_member(rt: HostRuntime) -> Result<(), Fail> {
-    let (disk, mut post, ended, line) = put_card(
-        rt.alloc(),
-        MemDisk::honest(rt.alloc()),
-        &[],
-        &[],
-    )?;
+    let disk = MemDisk::honest(rt.alloc());
+    let mut post = MemPost::honest(rt.alloc());
+    let (disk, ended, line) = put_card(rt.alloc(), disk, &mut post, &[])?;
     assert_eq!(rt; ended.status, 3);
     assert_eq!(rt; ended.refusal, Some(Refusal::NotMade));
     assert_eq!(rt; line.as_slice(), b"refused not-made\n".as_slice());
@@ -313,7 +302,8 @@ fn names_the_device_that_failed_for_a_card(rt: HostRuntime) -> Result<(), Fail> 
     let cases = [(1, 9, 5, 0), (9, 1, 7, 1)];
     for (folder, output, status, left) in cases {
         let disk = disk_with(rt.alloc(), &made_bytes(0))?;
-        let (disk, mut post, ended, line) = put_card(rt.alloc(), disk, &[folder], &[output])?;
+        let mut post = MemPost::new(rt.alloc(), &[folder])?;
+        let (disk, ended, line) = put_card(rt.alloc(), disk, &mut post, &[output])?;
         assert_eq!(rt; ended.status, status);
         assert_eq!(rt; ended.refusal, None);
         assert_eq!(rt; line.as_slice(), b"".as_slice());
