@@ -1,8 +1,8 @@
 -- The laws for the two sets.
-use Rattle.std.proofs.Common.{◌≡◌, ◌⊎◌, ℕ, Some, List, length, All, ℤ, pos, sym, ap, ◌∙◌}
+use Rattle.std.proofs.Common.{◌≡◌, ℕ, Some, List, length, All, ℤ, pos, sym, ap, ◌∙◌}
 use Rattle.ring_poly.specs.Ring.{IsCentred}
 use Rattle.kem_trait.specs.Encapsulated.{Encapsulated}
-use Rattle.ntru_model.specs.Parameters.{Parameters, sntrup761, drill37, public_len, secret_len}
+use Rattle.ntru_model.specs.Parameters.{Parameters, IsKnown, public_len, secret_len}
 use Rattle.ntru_model.specs.Draws.{Stream}
 use Rattle.ntru_model.specs.Encodings.{public_encoding, public_read}
 use Rattle.ntru_model.specs.Pairs.{KeyPair, pair_drawn, public_key, secret_key, secret_read}
@@ -12,9 +12,6 @@ use Rattle.ntru_model.proofs.Bytes.{public_back, from_public_read, length-public
 use Rattle.ntru_model.proofs.Tested.{IsTested, HasParts, tested_from_read, read_back, rho_from_read, length-secret, parts_from_read}
 use Rattle.ntru_model.proofs.DrawnPairs.{drawn_tested}
 use Rattle.ntru_model.proofs.Undone.{decapsulates_law}
-
-abbrev pub IsKnown : Parameters → Type 0
-IsKnown s = (s ≡ sntrup761) ⊎ (s ≡ drill37)
 
 pub known_draws : (s : Parameters) (words : Stream) (pair : KeyPair) → IsKnown s → pair_drawn s words ≡ Some pair → secret_read s (secret_key s pair) ≡ Some pair
 known_draws s words pair known drawn =

@@ -15,4 +15,5 @@ pub mod Tested
 pub mod DrawnPairs
 pub mod Undone
 pub mod Computed
+pub mod Counts
 pub mod Laws

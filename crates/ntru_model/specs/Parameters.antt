@@ -1,6 +1,6 @@
 -- The sets of parameters of the key encapsulation. A polynomial is a list of p coefficients; the ring is
 -- Z[x]/(x^p - x - 1), with coefficients modulo q or modulo 3.
-use Rattle.std.specs.Prelude.{ℕ, ◌+◌, ◌/◌}
+use Rattle.std.specs.Prelude.{◌≡◌, ◌⊎◌, ℕ, ◌+◌, ◌/◌}
 use Rattle.ntru_codec.specs.Mixed.{mixed_len}
 
 pub record Parameters : Type 0 where
@@ -17,6 +17,10 @@ sntrup761 = record { p = 761; q = 4591; w = 286 }
 -- for rehearsals: it has no security
 abbrev pub drill37 : Parameters
 drill37 = record { p = 37; q = 127; w = 7 }
+
+-- one of the two sets
+abbrev pub IsKnown : Parameters → Type 0
+IsKnown s = (s ≡ sntrup761) ⊎ (s ≡ drill37)
 
 -- The lengths in bytes: of a small polynomial, and of rho; of a public key; of the polynomial in a ciphertext; of a
 -- secret key; and of a ciphertext.

@@ -1,14 +1,14 @@
 //! The key encapsulation by its definitions, and its laws: each is the contract of a function.
 #![tactic(auto)]
 
-ghost use Rattle.std.specs.Prelude.{◌≡◌, ◌⊎◌, ℕ, ◌+◌, ◌%◌, ◌<◌, length, take, drop, All, List, [], ◌∷◌, Some, None, ℤ, pos, negsuc};
+ghost use Rattle.std.specs.Prelude.{◌≡◌, ℕ, ◌+◌, ◌%◌, ◌<◌, length, take, drop, All, List, [], ◌∷◌, Some, None, ℤ, pos, negsuc};
 ghost use Rattle.ring_poly.specs.Ring.{AreCongruent, IsCentred, product};
 ghost use Rattle.ring_solve.specs.Fields.{one};
 ghost use Rattle.ring_laws.specs.Laws.{HasInverse};
 ghost use Rattle.ntru_codec.specs.Mixed.{mixed_encoding, Spells};
 ghost use Rattle.ntru_codec.specs.Small.{IsSmall, small_encoding, SpellsSmall};
 ghost use Rattle.kem_trait.specs.Encapsulated.{Encapsulated};
-ghost use Rattle.ntru_model.specs.Parameters.{Parameters, sntrup761, drill37, small_len, public_len, core_len, secret_len, cipher_len};
+ghost use Rattle.ntru_model.specs.Parameters.{Parameters, IsKnown, sntrup761, drill37, small_len, public_len, core_len, secret_len, cipher_len};
 ghost use Rattle.ntru_model.specs.Residues.{inverse_mod};
 ghost use Rattle.ntru_model.specs.Draws.{Stream, marked, small_coefficient};
 ghost use Rattle.ntru_model.specs.Encodings.{mixed_read, small_read, public_read, public_encoding};
@@ -34,24 +34,24 @@ pub fn reads_encodings()
 /// The polynomial of a public key: each polynomial of centred coefficients is read from its encoding, as that of a tested
 /// pair, and nothing else is read.
 pub fn reads_public_keys()
-    ensures every { (s : Parameters) (h : List ℤ) → (s ≡ sntrup761) ⊎ (s ≡ drill37) → length h ≡ s.p → All (IsCentred (pos s.q)) h → public_read s (public_encoding s h) ≡ Some h }
-    ensures own { (s : Parameters) (secret : List ℕ) (pair : KeyPair) → (s ≡ sntrup761) ⊎ (s ≡ drill37) → secret_read s secret ≡ Some pair → public_read s (public_key s pair) ≡ Some pair.h }
-    ensures only { (s : Parameters) (public : List ℕ) (h : List ℤ) → (s ≡ sntrup761) ⊎ (s ≡ drill37) → public_read s public ≡ Some h → (length h ≡ s.p) × All (IsCentred (pos s.q)) h }
+    ensures every { (s : Parameters) (h : List ℤ) → IsKnown s → length h ≡ s.p → All (IsCentred (pos s.q)) h → public_read s (public_encoding s h) ≡ Some h }
+    ensures own { (s : Parameters) (secret : List ℕ) (pair : KeyPair) → IsKnown s → secret_read s secret ≡ Some pair → public_read s (public_key s pair) ≡ Some pair.h }
+    ensures only { (s : Parameters) (public : List ℕ) (h : List ℤ) → IsKnown s → public_read s public ≡ Some h → (length h ≡ s.p) × All (IsCentred (pos s.q)) h }
     ensures bytes { (s : Parameters) (public : List ℕ) (h : List ℤ) → public_read s public ≡ Some h → public_encoding s h ≡ public }
 {}
 
 /// What is drawn is a tested pair: its secret key reads as the pair.
 pub fn draws_tested_pairs()
-    ensures { (s : Parameters) (words : Stream) (pair : KeyPair) → (s ≡ sntrup761) ⊎ (s ≡ drill37) → pair_drawn s words ≡ Some pair → secret_read s (secret_key s pair) ≡ Some pair }
+    ensures { (s : Parameters) (words : Stream) (pair : KeyPair) → IsKnown s → pair_drawn s words ≡ Some pair → secret_read s (secret_key s pair) ≡ Some pair }
 {}
 
 /// A tested pair has one secret key, which is what it was read from; its public key, rho and the hash of the public key
 /// stand in it.
 pub fn has_one_secret()
-    ensures whole { (s : Parameters) (secret : List ℕ) (pair : KeyPair) → (s ≡ sntrup761) ⊎ (s ≡ drill37) → secret_read s secret ≡ Some pair → secret_key s pair ≡ secret }
-    ensures public { (s : Parameters) (secret : List ℕ) (pair : KeyPair) → (s ≡ sntrup761) ⊎ (s ≡ drill37) → secret_read s secret ≡ Some pair → take (public_len s) (drop (small_len s + small_len s) secret) ≡ public_key s pair }
-    ensures rho { (s : Parameters) (secret : List ℕ) (pair : KeyPair) → (s ≡ sntrup761) ⊎ (s ≡ drill37) → secret_read s secret ≡ Some pair → take (small_len s) (drop (small_len s + small_len s + public_len s) secret) ≡ pair.rho }
-    ensures cache { (s : Parameters) (secret : List ℕ) (pair : KeyPair) → (s ≡ sntrup761) ⊎ (s ≡ drill37) → secret_read s secret ≡ Some pair → drop (small_len s + small_len s + public_len s + small_len s) secret ≡ hash 4 (public_key s pair) }
+    ensures whole { (s : Parameters) (secret : List ℕ) (pair : KeyPair) → IsKnown s → secret_read s secret ≡ Some pair → secret_key s pair ≡ secret }
+    ensures public { (s : Parameters) (secret : List ℕ) (pair : KeyPair) → IsKnown s → secret_read s secret ≡ Some pair → take (public_len s) (drop (small_len s + small_len s) secret) ≡ public_key s pair }
+    ensures rho { (s : Parameters) (secret : List ℕ) (pair : KeyPair) → IsKnown s → secret_read s secret ≡ Some pair → take (small_len s) (drop (small_len s + small_len s + public_len s) secret) ≡ pair.rho }
+    ensures cache { (s : Parameters) (secret : List ℕ) (pair : KeyPair) → IsKnown s → secret_read s secret ≡ Some pair → drop (small_len s + small_len s + public_len s + small_len s) secret ≡ hash 4 (public_key s pair) }
 {}
 
 /// Equal words draw equal pairs, and encapsulate the same.
@@ -62,13 +62,13 @@ pub fn depends_on_words()
 
 /// Decapsulation by a tested pair gives the key that was encapsulated to its public key.
 pub fn decapsulates()
-    ensures { (s : Parameters) (secret : List ℕ) (pair : KeyPair) (words : Stream) (e : Encapsulated) → (s ≡ sntrup761) ⊎ (s ≡ drill37) → secret_read s secret ≡ Some pair → encapsulated s (public_key s pair) words ≡ Some e → decapsulated_by s secret e.cipher ≡ Some e.key }
+    ensures { (s : Parameters) (secret : List ℕ) (pair : KeyPair) (words : Stream) (e : Encapsulated) → IsKnown s → secret_read s secret ≡ Some pair → encapsulated s (public_key s pair) words ≡ Some e → decapsulated_by s secret e.cipher ≡ Some e.key }
 {}
 
 /// How many bytes each thing has.
 pub fn has_lengths()
-    ensures secret { (s : Parameters) (secret : List ℕ) (pair : KeyPair) → (s ≡ sntrup761) ⊎ (s ≡ drill37) → secret_read s secret ≡ Some pair → length secret ≡ secret_len s }
-    ensures public { (s : Parameters) (secret : List ℕ) (pair : KeyPair) → (s ≡ sntrup761) ⊎ (s ≡ drill37) → secret_read s secret ≡ Some pair → length (public_key s pair) ≡ public_len s }
+    ensures secret { (s : Parameters) (secret : List ℕ) (pair : KeyPair) → IsKnown s → secret_read s secret ≡ Some pair → length secret ≡ secret_len s }
+    ensures public { (s : Parameters) (secret : List ℕ) (pair : KeyPair) → IsKnown s → secret_read s secret ≡ Some pair → length (public_key s pair) ≡ public_len s }
     ensures cipher { (s : Parameters) (public : List ℕ) (words : Stream) (e : Encapsulated) → encapsulated s public words ≡ Some e → length e.cipher ≡ cipher_len s }
     ensures key { (s : Parameters) (public : List ℕ) (words : Stream) (e : Encapsulated) → encapsulated s public words ≡ Some e → length e.key ≡ 32 }
     ensures answer { (s : Parameters) (pair : KeyPair) (cipher key : List ℕ) → decapsulated s pair cipher ≡ Some key → length key ≡ 32 }

@@ -2,7 +2,7 @@
 use Rattle.std.proofs.Common.{◌≡◌, refl, subst, sym, ℕ, ◌≤◌, ℤ, pos, arith, rules, ⊎_elim, Option, Some, None, is_some}
 use Rattle.std.specs.Option.{option_map}
 use Rattle.ntru_model.specs.Parameters.{public_len, core_len, cipher_len}
-use Rattle.ntru_prime.specs.Lengths.{large_public, large_core, little_public, little_core}
+use Rattle.ntru_model.proofs.Counts.{large_public, large_core, little_public, little_core}
 use Rattle.ntru_prime.specs.Sets.{IsSet, set_of}
 
 pub public_few : (p : ℕ) (q : ℤ) (w : ℕ) → IsSet p q w → public_len (set_of p q w) ≤ 1158

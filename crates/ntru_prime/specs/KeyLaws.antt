@@ -1,8 +1,8 @@
 -- The laws of a key encapsulation, for both sets.
-use Rattle.std.proofs.Common.{◌≡◌, ◌⊎◌, refl, ap, sym, ◌∙◌, ℕ, true, Option, Some, None, IsSome, List, length, is_some}
+use Rattle.std.proofs.Common.{◌≡◌, refl, ap, sym, ◌∙◌, ℕ, true, Option, Some, None, IsSome, List, length, is_some}
 use Rattle.std.specs.Option.{option_map}
 use Rattle.kem_trait.specs.Encapsulated.{Encapsulated}
-use Rattle.ntru_model.specs.Parameters.{Parameters, drill37, sntrup761, public_len}
+use Rattle.ntru_model.specs.Parameters.{Parameters, IsKnown, public_len}
 use Rattle.ntru_model.specs.Draws.{short_draw}
 use Rattle.ntru_model.specs.Encodings.{public_read}
 use Rattle.ntru_model.specs.Pairs.{KeyPair, pair_drawn, secret_key, secret_read}
@@ -16,9 +16,6 @@ use Rattle.ntru_model.proofs.Undone.{decapsulates_law, length-encapsulated}
 use Rattle.ntru_model.proofs.Laws.{known_secret_len}
 use Rattle.ntru_prime.specs.Keys.{made, is_secret, is_public, public_in}
 use Rattle.ntru_prime.specs.Lengths.{HasLengths}
-
-abbrev IsKnown : Parameters → Type 0
-IsKnown s = (s ≡ sntrup761) ⊎ (s ≡ drill37)
 
 -- what a value that is there is
 some_of : {A : Type 0} (o : Option A) → is_some o ≡ true → (a : A) × (o ≡ Some a)

@@ -1,8 +1,8 @@
 -- The two sets of parameters by their numbers, and the pair that a secret key holds.
-use Rattle.std.specs.Prelude.{◌≡◌, ◌⊎◌, ℕ, nat_eq, if◌then◌else◌, ◌+◌, ◌%◌, ◌<◌, ◌≤◌, List, take, drop, ℤ, pos, unsigned_abs}
+use Rattle.std.specs.Prelude.{◌≡◌, ℕ, nat_eq, if◌then◌else◌, ◌+◌, ◌%◌, ◌<◌, ◌≤◌, List, take, drop, ℤ, pos, unsigned_abs}
 use Rattle.ring_poly.specs.Ring.{IsModulus}
 use Rattle.ring_solve.specs.Fields.{IsField}
-use Rattle.ntru_model.specs.Parameters.{Parameters, drill37, public_len, small_len, sntrup761}
+use Rattle.ntru_model.specs.Parameters.{Parameters, IsKnown, drill37, public_len, small_len, sntrup761}
 use Rattle.ntru_model.specs.Pairs.{KeyPair}
 
 abbrev pub set_of : ℕ → ℤ → ℕ → Parameters
@@ -14,7 +14,7 @@ parameters p = if nat_eq p 761 then sntrup761 else drill37
 
 -- one of the two sets, and what holds of both
 pub record IsSet (p : ℕ) (q : ℤ) (w : ℕ) : Type 0 where
-  pub known : (set_of p q w ≡ sntrup761) ⊎ (set_of p q w ≡ drill37)
+  pub known : IsKnown (set_of p q w)
   pub named : parameters p ≡ set_of p q w
   pub size : (1 < p) × (p ≤ 761)
   pub fours : p % 4 ≡ 1

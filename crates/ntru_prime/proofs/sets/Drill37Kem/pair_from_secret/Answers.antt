@@ -1,5 +1,5 @@
 use Rattle.std.proofs.Common.{sym, ◌∙◌, arith}
-use Rattle.ntru_prime.specs.Lengths.{little_secret}
+use Rattle.ntru_model.proofs.Counts.{little_secret}
 use Rattle.ntru_prime.proofs.SetFacts.{little_set}
 use Rattle.ntru_prime.proofs.sets.Drill37Kem.pair_from_secret.Goals as goal
 

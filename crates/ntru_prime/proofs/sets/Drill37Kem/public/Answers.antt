@@ -1,5 +1,5 @@
 use Rattle.std.proofs.Common.{sym, ◌∙◌, arith}
-use Rattle.ntru_prime.specs.Lengths.{little_public}
+use Rattle.ntru_model.proofs.Counts.{little_public}
 use Rattle.ntru_prime.proofs.SetFacts.{little_set}
 use Rattle.ntru_prime.proofs.sets.Drill37Kem.public.Goals as goal
 

@@ -1,6 +1,6 @@
 use Rattle.std.proofs.Common.{sym, ap, ◌∙◌, length}
 use Rattle.ntru_prime.proofs.PairFacts.{pair_len}
-use Rattle.ntru_prime.specs.Lengths.{little_secret}
+use Rattle.ntru_model.proofs.Counts.{little_secret}
 use Rattle.ntru_prime.proofs.SetFacts.{little_set}
 use Rattle.ntru_prime.proofs.sets.Drill37Kem.secret.Goals as goal
 

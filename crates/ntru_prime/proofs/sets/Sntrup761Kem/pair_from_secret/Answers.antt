@@ -1,5 +1,5 @@
 use Rattle.std.proofs.Common.{sym, ◌∙◌, arith}
-use Rattle.ntru_prime.specs.Lengths.{large_secret}
+use Rattle.ntru_model.proofs.Counts.{large_secret}
 use Rattle.ntru_prime.proofs.SetFacts.{large_set}
 use Rattle.ntru_prime.proofs.sets.Sntrup761Kem.pair_from_secret.Goals as goal
 

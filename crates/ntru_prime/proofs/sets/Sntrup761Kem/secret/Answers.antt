@@ -1,6 +1,6 @@
 use Rattle.std.proofs.Common.{sym, ap, ◌∙◌, length}
 use Rattle.ntru_prime.proofs.PairFacts.{pair_len}
-use Rattle.ntru_prime.specs.Lengths.{large_secret}
+use Rattle.ntru_model.proofs.Counts.{large_secret}
 use Rattle.ntru_prime.proofs.SetFacts.{large_set}
 use Rattle.ntru_prime.proofs.sets.Sntrup761Kem.secret.Goals as goal
 
