@@ -1,265 +1,179 @@
--- Bytes whose fields have no fault are those of one card.
-use Rattle.std.proofs.Common.{◌≡◌, ℕ, ◌+◌, ◌-◌, ◌<◌, ◌≤◌, true, false, leb, eqb, ◌&&◌, ◌||◌, List, [], ◌∷◌, ◌++◌, length, get_or, take, drop, refl, ap, sym, subst, ◌∙◌, arith, inl, inr, append_assoc}
-use Rattle.std.specs.Prelude.{Some, None, nat_le, slice_index}
-use Rattle.std.specs.Int.{w8, w32, from_be_bytes}
-use Rattle.std.proofs.lemmas.Bool.{and_parts, and_from, cases_Bool, cases_lt, leb-true, le-leb, eqb-true, eqb-false, eq-eqb, or_cases, or_left, or_right}
-use Rattle.std.proofs.lemmas.List.{length-append, length-take, length-drop, take-append-drop, take-append-le, take-take, drop-drop, drop-take, drop-append-le, take_at, drop_at, get_or-take, get_or-drop}
-use Rattle.std.proofs.Math.Seq.{take-length}
-use Rattle.group_fields.specs.Cards.{IsCardFault, Spells, card_fields, card_of, key_size, least_lms_type, lms_type, one_time_type, spelling}
-use Rattle.group_fields.specs.Reads.{first_fault}
+-- The spelling of a card that has one.
+use Rattle.std.proofs.Common.{◌≡◌, ◌⊎◌, ℕ, ◌+◌, ◌<◌, ◌≤◌, IsTrue, ◌==◌, ◌&&◌, ◌||◌, true, List, [], ◌∷◌, ◌++◌, length, take, drop, refl, ap, sym, subst, ◌∙◌, arith, inl, inr, ⊎_elim, append_assoc}
+use Rattle.std.proofs.lemmas.Bool.Decides.{nat_tests}
+use Rattle.std.proofs.lemmas.List.{length-drop, length-take, take-append-drop}
+use Rattle.std.specs.Int.{w8, w32, from_be_bytes, to_be_bytes}
+use Rattle.sha2.specs.Sha256.{sha256}
+use Rattle.group_fields.specs.Cards.{HasSpelling, Spells, card, card_id, card_of_sets, key_size, least_lms_type, lms_public, lms_type, one_time_type, spelling}
+use Rattle.group_fields.specs.Fields.{Fills, any_bytes, number_from}
+use Rattle.group_fields.specs.Layouts as layouts
+use Rattle.group_fields.specs.Layouts.{bytes_of, digest, known, number}
 use Rattle.group_fields.specs.declared.card.Card.{Card}
-use Rattle.group_fields.specs.declared.fault.FieldFault.{FieldFault}
-use Rattle.group_fields.proofs.Faults.{AllHold, AllSized, all_hold, first_from_least, least_from_first, none_from_all}
+use Rattle.group_fields.proofs.LayoutLaws.{IsPlain, one_spelling, one_value, written_is}
 
--- ---- lengths
-
-key_size-positive : (set : ℕ) → 33 ≤ key_size set
-key_size-positive set = elim (cases_Bool (eqb set 1)) [ inl is ↦ rw is (omega arith) | inr other ↦ rw other (omega arith) ]
-
-spelling_length : (card : Card) (bytes : List ℕ) → Spells card bytes → length bytes ≡ 91 + key_size card.set
+-- bytes that spell a card are its spelling
+pub spelling_is : (value : Card) (bytes : List ℕ) → Spells value bytes → bytes ≡ spelling value
 unfolding spelling
-spelling_length card bytes spells =
-    let whole = ap length spells.whole in
-    omega (arith, whole, spells.lms_public, spells.inviter, spells.has_spelling.kem_public, length-append (card.lms_public ++ card.inviter.0.0) card.kem_public, length-append card.lms_public card.inviter.0.0)
+spelling_is value bytes spells = written_is card bytes value spells
 
--- every field of a card but its key is there
-pub is_long : (bytes : List ℕ) → Spells (card_of bytes) bytes → 124 ≤ length bytes
-is_long bytes spells = omega (arith, spelling_length (card_of bytes) bytes spells, key_size-positive (slice_index bytes 2))
+pub id_is : (value : Card) (bytes : List ℕ) → Spells value bytes → sha256 bytes ≡ card_id value
+unfolding card_id
+id_is value bytes spells = ap sha256 (spelling_is value bytes spells)
 
--- what is left behind a place, taken whole
-pub all_behind : (place : ℕ) (bytes : List ℕ) → take (length bytes - place) (drop place bytes) ≡ drop place bytes
-all_behind place bytes =
-    let n = sym (length-drop place bytes) in
-    ap (λ (i : ℕ). take i (drop place bytes)) n ∙ take-length (drop place bytes)
+pub one_card : (bytes : List ℕ) (a b : Card) → Spells a bytes → Spells b bytes → a ≡ b
+one_card bytes a b of_a of_b = one_value card bytes a b of_a of_b
 
--- ---- from fields to a card
+pub one_card_spelling : (value : Card) (a b : List ℕ) → Spells value a → Spells value b → a ≡ b
+one_card_spelling value a b is_a is_b = one_spelling card value a b is_a is_b
 
-between : (least value greatest : ℕ) → (nat_le least value && nat_le value greatest) ≡ true → (least ≤ value) × (value ≤ greatest)
-between least value greatest e =
-    let parts = and_parts (leb least value) (leb value greatest) e in
-    (leb-true least value parts.0, leb-true value greatest parts.1)
+-- ---- a card that has a spelling
 
-one_byte : (bytes : List ℕ) (place : ℕ) → from_be_bytes w8 (take 1 (drop place bytes)) ≡ slice_index bytes place
-one_byte bytes place =
-    let lt : 0 < 1 = omega arith in
-    let here : place + 0 ≡ place = omega arith in
-    rw (get_or-take, get_or-drop) (ap (λ (i : ℕ). get_or bytes i 0) here)
+record IsSetByte (set : ℕ) : Type 0 where
+  pub fills : Fills (number_from w8 1 2) (to_be_bytes w8 set)
+  pub value : set ≡ from_be_bytes w8 (to_be_bytes w8 set)
+  pub byte : to_be_bytes w8 set ≡ set ∷ []
 
--- the first three bytes, and the rest
-front : (bytes : List ℕ) → 3 ≤ length bytes → bytes ≡ slice_index bytes 0 ∷ slice_index bytes 1 ∷ slice_index bytes 2 ∷ drop 3 bytes
-front [] long = absurd (omega arith)
-front (a ∷ []) long = absurd (omega arith)
-front (a ∷ b ∷ []) long = absurd (omega arith)
-front (a ∷ b ∷ c ∷ rest) long = refl
+sets : (set : ℕ) → IsTrue ((set == 1) || (set == 2)) → (set ≡ 1) ⊎ (set ≡ 2)
+sets set is = grind (arith, nat_tests)
 
--- what stands behind a place, in three parts
-parts_at : (place first second : ℕ) (bytes : List ℕ) → drop place bytes
-    ≡ take first (drop place bytes) ++ take second (drop (place + first) bytes) ++ drop (place + first + second) bytes
-parts_at place first second bytes =
-    let one = sym (take-append-drop first (drop place bytes)) in
-    let behind : drop first (drop place bytes) ≡ drop (place + first) bytes = drop-drop first place bytes in
-    let two = sym (take-append-drop second (drop (place + first) bytes)) in
-    let last : drop second (drop (place + first) bytes) ≡ drop (place + first + second) bytes = drop-drop second (place + first) bytes in
-    one ∙ ap (λ (x : List ℕ). take first (drop place bytes) ++ x) (behind ∙ two ∙ ap (λ (x : List ℕ). take second (drop (place + first) bytes) ++ x) last)
-    ∙ sym (append_assoc (take first (drop place bytes)) (take second (drop (place + first) bytes)) (drop (place + first + second) bytes))
+set_byte : (set : ℕ) → IsTrue ((set == 1) || (set == 2)) → IsSetByte set
+set_byte set is = ⊎_elim one two (sets set is)
+  where
+    one : set ≡ 1 → IsSetByte set
+    one e = subst IsSetByte (sym e) (record { fills = record { size = refl; allowed = refl }; value = refl; byte = refl })
 
-is_set : (set : ℕ) → 1 ≤ set → set ≤ 2 → ((eqb set 1) || (eqb set 2)) ≡ true
-is_set set low high =
-    elim (cases_lt set 2) [
-      | inl lt ↦ or_left (eqb set 1) (eqb set 2) (eq-eqb set 1 (omega arith))
-      | inr ge ↦ or_right (eqb set 1) (eqb set 2) (eq-eqb set 2 (omega arith))
-    ]
+    two : set ≡ 2 → IsSetByte set
+    two e = subst IsSetByte (sym e) (record { fills = record { size = refl; allowed = refl }; value = refl; byte = refl })
 
--- the least type by the set
-least_of_one : (set : ℕ) → eqb set 1 ≡ true → least_lms_type set ≡ 6
-least_of_one set is = rw is refl
+-- the two types at the front of an LMS public key
+record IsKey (key : List ℕ) (type : ℕ) : Type 0 where
+  pub rest : List ℕ
+  pub is : key ≡ 0 ∷ 0 ∷ 0 ∷ type ∷ 0 ∷ 0 ∷ 0 ∷ 3 ∷ rest
+  pub size : length rest ≡ 48
 
-least_of_other : (set : ℕ) → eqb set 1 ≡ false → least_lms_type set ≡ 5
-least_of_other set other = rw other refl
+is_key : (key : List ℕ) (type : ℕ) → length key ≡ 56 → type < 256 → from_be_bytes w32 (take 4 key) ≡ type
+    → from_be_bytes w32 (take 4 (drop 4 key)) ≡ 3 → IsKey key type
+is_key (a ∷ b ∷ c ∷ d ∷ e ∷ f ∷ g ∷ h ∷ rest) type long small first second =
+    let a0 : a ≡ 0 = omega arith in
+    let b0 : b ≡ 0 = omega arith in
+    let c0 : c ≡ 0 = omega arith in
+    let d0 : d ≡ type = omega arith in
+    let e0 : e ≡ 0 = omega arith in
+    let f0 : f ≡ 0 = omega arith in
+    let g0 : g ≡ 0 = omega arith in
+    let h0 : h ≡ 3 = omega arith in
+    record { rest = rest; is = cc; size = omega arith }
+is_key _ type long small first second = absurd (omega arith)
 
-is_type : (set type : ℕ) → 1 ≤ set → set ≤ 2 → least_lms_type set ≤ type → type ≤ 6 → ((eqb type 6) || ((eqb set 2) && (eqb type 5))) ≡ true
-is_type set type low high least greatest =
-    elim (cases_Bool (eqb set 1)) [
-      | inl one ↦ let six = least_of_one set one in or_left (eqb type 6) ((eqb set 2) && (eqb type 5)) (eq-eqb type 6 (omega (arith, six, least, greatest)))
-      | inr other ↦
-          let five = least_of_other set other in
-          let two : set ≡ 2 = omega (arith, eqb-false set 1 other, low, high) in
-          elim (cases_lt type 6) [
-            | inl lt ↦ or_right (eqb type 6) ((eqb set 2) && (eqb type 5)) (and_from (eqb set 2) (eqb type 5) (eq-eqb set 2 two) (eq-eqb type 5 (omega (arith, five, least, lt))))
-            | inr ge ↦ or_left (eqb type 6) ((eqb set 2) && (eqb type 5)) (eq-eqb type 6 (omega (arith, ge, greatest)))
-          ]
-    ]
-
--- four bytes of the first part of a string
-four_of : (count : ℕ) (bytes : List ℕ) → 4 ≤ count → take 4 (take count bytes) ≡ take 4 bytes
-four_of count bytes le = take-take 4 count bytes le
-
-four_behind : (place : ℕ) (bytes : List ℕ) → take 4 (drop 4 (take 56 (drop place bytes))) ≡ take 4 (drop (place + 4) bytes)
-four_behind place bytes =
-    ap (λ (x : List ℕ). take 4 x) (drop-take 4 52 (drop place bytes) ∙ ap (λ (x : List ℕ). take 52 x) (drop-drop 4 place bytes))
-    ∙ four_of 52 (drop (place + 4) bytes) (omega arith)
-
-same_front : (a a' b b' set : ℕ) (rest rest' : List ℕ) → a ≡ a' → b ≡ b' → rest ≡ rest' → a ∷ b ∷ set ∷ rest ≡ a' ∷ b' ∷ set ∷ rest'
-same_front a a' b b' set rest rest' ea eb er = cc
-
-spells_from_all : (bytes : List ℕ) → AllHold (card_fields (slice_index bytes 2)) 0 bytes → Spells (card_of bytes) bytes
-unfolding spelling
-spells_from_all bytes all =
-    let set = slice_index bytes 2 in
-    let key = all.1.1.1.1.1.1.1.1 in
-    let long : 91 + key_size set ≤ length bytes = key.0.fits in
-    let short : length bytes ≤ 91 + key_size set = key.1 in
-    let positive = key_size-positive set in
-    let tag_range = between 0x43 (from_be_bytes w8 (take 1 (drop 0 bytes))) 0x43 all.0.allowed in
-    let version_range = between 1 (from_be_bytes w8 (take 1 (drop 1 bytes))) 1 all.1.0.allowed in
-    let set_range = between 1 (from_be_bytes w8 (take 1 (drop 2 bytes))) 2 all.1.1.0.allowed in
-    let type_range = between (least_lms_type set) (from_be_bytes w32 (take 4 (drop 3 bytes))) 6 all.1.1.1.0.allowed in
-    let one_time_range = between 3 (from_be_bytes w32 (take 4 (drop 7 bytes))) 3 all.1.1.1.1.0.allowed in
-    let tag : slice_index bytes 0 ≡ 0x43 = omega (arith, tag_range, one_byte bytes 0) in
-    let version : slice_index bytes 1 ≡ 1 = omega (arith, version_range, one_byte bytes 1) in
-    let low : 1 ≤ set = omega (arith, set_range, one_byte bytes 2) in
-    let high : set ≤ 2 = omega (arith, set_range, one_byte bytes 2) in
-    let IsType : ℕ → Type 0 = λ type. ((eqb type 6) || ((eqb set 2) && (eqb type 5))) ≡ true in
-    let type_is : lms_type (card_of bytes) ≡ from_be_bytes w32 (take 4 (drop 3 bytes)) = ap (λ (x : List ℕ). from_be_bytes w32 x) (four_of 56 (drop 3 bytes) (omega arith)) in
-    let one_time_is : one_time_type (card_of bytes) ≡ from_be_bytes w32 (take 4 (drop 7 bytes)) = ap (λ (x : List ℕ). from_be_bytes w32 x) (four_behind 3 bytes) in
-    record {
-      has_spelling = record {
-        set = is_set set low high;
-        lms_type = subst IsType (sym type_is) (is_type set (from_be_bytes w32 (take 4 (drop 3 bytes))) low high type_range.0 type_range.1);
-        one_time_type = omega (arith, one_time_is, one_time_range);
-        kem_public = omega (arith, length-drop 91 bytes, long, short);
-      };
-      lms_public = omega (arith, length-take 56 (drop 3 bytes), length-drop 3 bytes, long);
-      inviter = omega (arith, length-take 32 (drop 59 bytes), length-drop 59 bytes, long, positive);
-      whole = front bytes (omega (arith, long))
-          ∙ same_front (slice_index bytes 0) 0x43 (slice_index bytes 1) 1 set (drop 3 bytes) (take 56 (drop 3 bytes) ++ take 32 (drop 59 bytes) ++ drop 91 bytes) tag version (parts_at 3 56 32 bytes);
-    }
-
--- ---- from a card to fields
-
-same_card : (set : ℕ) (a a' b b' c c' : List ℕ) → a ≡ a' → b ≡ b' → c ≡ c'
-    → ◌≡◌ {A = Card} (record { set = set; lms_public = a; inviter = record { 0 = record { 0 = b } }; kem_public = c }) (record { set = set; lms_public = a'; inviter = record { 0 = record { 0 = b' } }; kem_public = c' })
-same_card set a a' b b' c c' ea eb ec = rw (ea, eb, ec) refl
-
--- the parts of the spelling behind its first three bytes
-record Parts (a b c : List ℕ) : Type 0 where
-  pub first : take 56 (a ++ b ++ c) ≡ a
-  pub second : take 32 (drop 56 (a ++ b ++ c)) ≡ b
-  pub third : drop 88 (a ++ b ++ c) ≡ c
-  pub type : take 4 (a ++ b ++ c) ≡ take 4 a
-  pub one_time_type : take 4 (drop 4 (a ++ b ++ c)) ≡ take 4 (drop 4 a)
-
-parts : (a b c : List ℕ) → length a ≡ 56 → length b ≡ 32 → Parts a b c
-parts a b c la lb =
-    let grouped : a ++ b ++ c ≡ a ++ (b ++ c) = append_assoc a b c in
-    let behind : drop 56 (a ++ b ++ c) ≡ b ++ c = ap (λ (x : List ℕ). drop 56 x) grouped ∙ drop_at a (b ++ c) 56 la in
-    let four : 4 ≤ length a = omega (arith, la) in
-    let four_more : 4 ≤ length (drop 4 a) = omega (arith, la, length-drop 4 a) in
-    let behind_four : drop 4 (a ++ b ++ c) ≡ drop 4 a ++ (b ++ c) = ap (λ (x : List ℕ). drop 4 x) grouped ∙ drop-append-le 4 a (b ++ c) four in
-    record {
-      first = ap (λ (x : List ℕ). take 56 x) grouped ∙ take_at a (b ++ c) 56 la;
-      second = ap (λ (x : List ℕ). take 32 x) behind ∙ take_at b c 32 lb;
-      third = drop_at (a ++ b) c 88 (omega (arith, length-append a b, la, lb));
-      type = ap (λ (x : List ℕ). take 4 x) grouped ∙ take-append-le 4 a (b ++ c) four;
-      one_time_type = ap (λ (x : List ℕ). take 4 x) behind_four ∙ take-append-le 4 (drop 4 a) (b ++ c) four_more;
-    }
-
--- the card is the one whose fields stand at their places
-pub card_is : (card : Card) (bytes : List ℕ) → Spells card bytes → card ≡ card_of bytes
-unfolding spelling
-card_is card bytes spells =
-    let p = parts card.lms_public card.inviter.0.0 card.kem_public spells.lms_public spells.inviter in
-    let rest = card.lms_public ++ card.inviter.0.0 ++ card.kem_public in
-    let at_spelling : card ≡ card_of (0x43 ∷ 1 ∷ card.set ∷ rest) =
-    same_card card.set card.lms_public (take 56 rest) card.inviter.0.0 (take 32 (drop 56 rest)) card.kem_public (drop 88 rest) (sym p.first) (sym p.second) (sym p.third) in
-    subst (λ (b : List ℕ). card ≡ card_of b) (sym spells.whole) at_spelling
-
-set_allowed : (set : ℕ) → ((eqb set 1) || (eqb set 2)) ≡ true → (leb 1 set && leb set 2) ≡ true
-set_allowed set is =
-    elim (or_cases (eqb set 1) (eqb set 2) is) [
-      | inl one ↦ let e = eqb-true set 1 one in and_from (leb 1 set) (leb set 2) (le-leb 1 set (omega (arith, e))) (le-leb set 2 (omega (arith, e)))
-      | inr two ↦ let e = eqb-true set 2 two in and_from (leb 1 set) (leb set 2) (le-leb 1 set (omega (arith, e))) (le-leb set 2 (omega (arith, e)))
-    ]
-
-least-below : (set : ℕ) → least_lms_type set ≤ 6
-least-below set = elim (cases_Bool (eqb set 1)) [ inl one ↦ omega (arith, least_of_one set one) | inr other ↦ omega (arith, least_of_other set other) ]
-
-least_of_two : (set : ℕ) → eqb set 2 ≡ true → least_lms_type set ≡ 5
-least_of_two set two = let e = eqb-true set 2 two in ap least_lms_type e
-
-in_range : (least value greatest : ℕ) → least ≤ value → value ≤ greatest → (leb least value && leb value greatest) ≡ true
-in_range least value greatest low high = and_from (leb least value) (leb value greatest) (le-leb least value low) (le-leb value greatest high)
-
-type_allowed : (set type : ℕ) → ((eqb type 6) || ((eqb set 2) && (eqb type 5))) ≡ true → (leb (least_lms_type set) type && leb type 6) ≡ true
-type_allowed set type is =
-    elim (or_cases (eqb type 6) ((eqb set 2) && (eqb type 5)) is) [
-      | inl six ↦ let e = eqb-true type 6 six in in_range (least_lms_type set) type 6 (omega (arith, e, least-below set)) (omega (arith, e))
-      | inr both ↦
-          let pair = and_parts (eqb set 2) (eqb type 5) both in
-          let e = eqb-true type 5 pair.1 in
-          in_range (least_lms_type set) type 6 (omega (arith, e, least_of_two set pair.0)) (omega (arith, e))
-    ]
-
-pub all_from_spells : (card : Card) (bytes : List ℕ) → Spells card bytes → AllHold (card_fields (slice_index bytes 2)) 0 bytes
-unfolding spelling
-all_from_spells card bytes spells =
-    let p = parts card.lms_public card.inviter.0.0 card.kem_public spells.lms_public spells.inviter in
-    let rest = card.lms_public ++ card.inviter.0.0 ++ card.kem_public in
-    let whole : List ℕ = 0x43 ∷ 1 ∷ card.set ∷ rest in
-    let len : length whole ≡ 91 + key_size card.set = sym (ap length spells.whole) ∙ spelling_length card bytes spells in
-    let type_is : lms_type card ≡ from_be_bytes w32 (take 4 rest) = ap (λ (x : List ℕ). from_be_bytes w32 x) (sym p.type) in
-    let one_time_is : from_be_bytes w32 (take 4 (drop 4 rest)) ≡ one_time_type card = ap (λ (x : List ℕ). from_be_bytes w32 x) p.one_time_type in
-    let three : from_be_bytes w32 (take 4 (drop 4 rest)) ≡ 3 = one_time_is ∙ spells.has_spelling.one_time_type in
-    let TypeAllowed : ℕ → Type 0 = λ type. (leb (least_lms_type card.set) type && leb type 6) ≡ true in
-    let at_spelling : AllHold (card_fields card.set) 0 whole = (
-      record { fits = omega (arith, len); allowed = refl },
+key_spelled : (set type : ℕ) (rest : List ℕ) → length rest ≡ 48
+    → Fills (number_from w32 (least_lms_type set) 6) (0 ∷ 0 ∷ 0 ∷ type ∷ []) → type ≡ from_be_bytes w32 (0 ∷ 0 ∷ 0 ∷ type ∷ [])
+    → layouts.Spells (lms_public set) (0 ∷ 0 ∷ 0 ∷ type ∷ 0 ∷ 0 ∷ 0 ∷ 3 ∷ rest) (0 ∷ 0 ∷ 0 ∷ type ∷ 0 ∷ 0 ∷ 0 ∷ 3 ∷ rest)
+unfolding lms_public known number bytes_of
+key_spelled set type rest long fills value =
+    let identifier : Fills (any_bytes 16) (take 16 rest) = record { size = omega (arith, length-take 16 rest, long); allowed = refl } in (
+      (type, (tt, (take 16 rest, drop 16 rest))),
       (
-        record { fits = omega (arith, len); allowed = refl },
+        0 ∷ 0 ∷ 0 ∷ type ∷ [],
+        0 ∷ 0 ∷ 0 ∷ 3 ∷ rest,
+        refl,
+        (fills, value),
         (
-          record { fits = omega (arith, len); allowed = set_allowed card.set spells.has_spelling.set },
+          0 ∷ 0 ∷ 0 ∷ 3 ∷ [],
+          rest,
+          refl,
+          (record { size = refl; allowed = refl }, refl),
+          (take 16 rest, drop 16 rest, sym (take-append-drop 16 rest), (identifier, refl), (record { size = omega (arith, length-drop 16 rest, long); allowed = refl }, refl)),
+        ),
+      ),
+      refl,
+    )
+
+type_fills : (set : ℕ) → IsTrue ((set == 1) || (set == 2)) → Fills (number_from w32 (least_lms_type set) 6) (0 ∷ 0 ∷ 0 ∷ 6 ∷ [])
+type_fills set is = ⊎_elim one two (sets set is)
+  where
+    one : set ≡ 1 → Fills (number_from w32 (least_lms_type set) 6) (0 ∷ 0 ∷ 0 ∷ 6 ∷ [])
+    one e = subst (λ (s : ℕ). Fills (number_from w32 (least_lms_type s) 6) (0 ∷ 0 ∷ 0 ∷ 6 ∷ [])) (sym e) (record { size = refl; allowed = refl })
+
+    two : set ≡ 2 → Fills (number_from w32 (least_lms_type set) 6) (0 ∷ 0 ∷ 0 ∷ 6 ∷ [])
+    two e = subst (λ (s : ℕ). Fills (number_from w32 (least_lms_type s) 6) (0 ∷ 0 ∷ 0 ∷ 6 ∷ [])) (sym e) (record { size = refl; allowed = refl })
+
+types : (set type : ℕ) → IsTrue ((type == 6) || ((set == 2) && (type == 5))) → (type ≡ 6) ⊎ ((set ≡ 2) × (type ≡ 5))
+types set type is = grind (arith, nat_tests)
+
+lms_spelled : (value : Card) → HasSpelling value → length value.lms_public ≡ 56 → layouts.Spells (lms_public value.set) value.lms_public value.lms_public
+lms_spelled value has long = ⊎_elim ten five (types value.set (lms_type value) has.lms_type)
+  where
+    ten : lms_type value ≡ 6 → layouts.Spells (lms_public value.set) value.lms_public value.lms_public
+    ten at =
+        let key = is_key value.lms_public 6 long (omega arith) at has.one_time_type in
+        subst (λ (k : List ℕ). layouts.Spells (lms_public value.set) k k) (sym key.is)
+        (key_spelled value.set 6 key.rest key.size (type_fills value.set has.set) refl)
+
+    five : (value.set ≡ 2) × (lms_type value ≡ 5) → layouts.Spells (lms_public value.set) value.lms_public value.lms_public
+    five at =
+        let key = is_key value.lms_public 5 long (omega arith) at.1 has.one_time_type in
+        let at_two : layouts.Spells (lms_public 2) (0 ∷ 0 ∷ 0 ∷ 5 ∷ 0 ∷ 0 ∷ 0 ∷ 3 ∷ key.rest) (0 ∷ 0 ∷ 0 ∷ 5 ∷ 0 ∷ 0 ∷ 0 ∷ 3 ∷ key.rest) =
+        key_spelled 2 5 key.rest key.size (record { size = refl; allowed = refl }) refl in
+        subst (λ (k : List ℕ). layouts.Spells (lms_public value.set) k k) (sym key.is)
+        (subst (λ (s : ℕ). layouts.Spells (lms_public s) (0 ∷ 0 ∷ 0 ∷ 5 ∷ 0 ∷ 0 ∷ 0 ∷ 3 ∷ key.rest) (0 ∷ 0 ∷ 0 ∷ 5 ∷ 0 ∷ 0 ∷ 0 ∷ 3 ∷ key.rest)) (sym at.0) at_two)
+
+-- a card that has a spelling is spelled by it
+pub spelled : (value : Card) → HasSpelling value → length value.lms_public ≡ 56 → length value.inviter.0.0 ≡ 32 → Spells value (spelling value)
+unfolding spelling card_of_sets known number bytes_of digest lms_public
+spelled value has lms_long inviter_long =
+    let set = set_byte value.set has.set in (
+      (tt, (tt, (value.set, (value.lms_public, (value.inviter.0, value.kem_public))))),
+      (
+        0x43 ∷ [],
+        _,
+        refl,
+        (record { size = refl; allowed = refl }, refl),
+        (
+          1 ∷ [],
+          _,
+          refl,
+          (record { size = refl; allowed = refl }, refl),
           (
-            record { fits = omega (arith, len); allowed = subst TypeAllowed type_is (type_allowed card.set (lms_type card) spells.has_spelling.lms_type) },
+            to_be_bytes w8 value.set,
+            _,
+            refl,
+            (set.fills, set.value),
             (
-              record { fits = omega (arith, len); allowed = in_range 3 (from_be_bytes w32 (take 4 (drop 4 rest))) 3 (omega (arith, three)) (omega (arith, three)) },
+              value.lms_public,
+              _,
+              refl,
+              lms_spelled value has lms_long,
               (
-                record { fits = omega (arith, len); allowed = refl },
-                (
-                  record { fits = omega (arith, len); allowed = refl },
-                  (
-                    record { fits = omega (arith, len); allowed = refl },
-                    (
-                      record { fits = omega (arith, len); allowed = refl },
-                      omega (arith, len),
-                    ),
-                  ),
-                ),
+                value.inviter.0.0,
+                value.kem_public,
+                refl,
+                (record { size = inviter_long; allowed = refl }, refl),
+                (record { size = has.kem_public; allowed = refl }, refl),
               ),
             ),
           ),
         ),
       ),
-    ) in
-    subst (λ (b : List ℕ). AllHold (card_fields (slice_index b 2)) 0 b) (sym spells.whole) at_spelling
+      refl,
+      refl,
+    )
 
--- ---- what a reader's answer says
+-- no part of a card encloses another, so at each place there is one fault at most
+pub card_plain : IsPlain card
+unfolding card_of_sets lms_public known number bytes_of digest
+card_plain =
+    (tt, λ tag. (tt, λ version. (tt, λ set. ((tt, λ lms_type. (tt, λ one_time_type. (tt, λ identifier. tt))), λ key. (tt, λ inviter. tt)))))
 
-pub spells_from_none : (bytes : List ℕ) → None ≡ first_fault (card_fields (slice_index bytes 2)) 0 bytes → Spells (card_of bytes) bytes
-spells_from_none bytes none = spells_from_all bytes (all_hold (card_fields (slice_index bytes 2)) 0 bytes (sym none))
-
-pub never_refused : (bytes : List ℕ) (fault : FieldFault) → Some fault ≡ first_fault (card_fields (slice_index bytes 2)) 0 bytes → (card : Card) → Spells card bytes → ⊥
-never_refused bytes fault some card spells =
-    let none = none_from_all (card_fields (slice_index bytes 2)) 0 bytes (all_from_spells card bytes spells) in
-    cc
-
-sized : (set : ℕ) → AllSized (card_fields set)
-sized set =
-    (omega arith, (omega arith, (omega arith, (omega arith, (omega arith, (omega arith, (omega arith, (omega arith, (omega (arith, key_size-positive set), tt)))))))))
-
-pub is_fault : (bytes : List ℕ) (fault : FieldFault) → Some fault ≡ first_fault (card_fields (slice_index bytes 2)) 0 bytes → IsCardFault bytes fault
-is_fault bytes fault some = least_from_first (card_fields (slice_index bytes 2)) 0 bytes fault (sym some)
-
-pub fault_is : (bytes : List ℕ) (fault : FieldFault) → IsCardFault bytes fault → first_fault (card_fields (slice_index bytes 2)) 0 bytes ≡ Some fault
-fault_is bytes fault is = first_from_least (card_fields (slice_index bytes 2)) 0 bytes fault (sized (slice_index bytes 2)) is
-
-pub same_from_bytes : (bytes : List ℕ) (a b : Card) → Spells a bytes → Spells b bytes → a ≡ b
-same_from_bytes bytes a b of_a of_b = card_is a bytes of_a ∙ sym (card_is b bytes of_b)
+-- what a writer appends, part behind part
+pub appended : (value : Card) (front with_key with_inviter whole : List ℕ) → IsTrue ((value.set == 1) || (value.set == 2))
+    → front ≡ 0x43 ∷ 1 ∷ value.set ∷ [] → with_key ≡ front ++ value.lms_public → with_inviter ≡ with_key ++ value.inviter.0.0
+    → whole ≡ with_inviter ++ value.kem_public → whole ≡ spelling value
+unfolding spelling card_of_sets known number bytes_of digest lms_public
+appended value front with_key with_inviter whole is front_is key_is inviter_is whole_is =
+    let set = set_byte value.set is in
+    let parts : whole ≡ (0x43 ∷ 1 ∷ value.set ∷ []) ++ value.lms_public ++ value.inviter.0.0 ++ value.kem_public =
+    whole_is ∙ ap (λ (l : List ℕ). l ++ value.kem_public) (inviter_is ∙ ap (λ (l : List ℕ). l ++ value.inviter.0.0) (key_is ∙ ap (λ (l : List ℕ). l ++ value.lms_public) front_is)) in
+    let rest : value.lms_public ++ value.inviter.0.0 ++ value.kem_public ≡ value.lms_public ++ (value.inviter.0.0 ++ value.kem_public) =
+    append_assoc value.lms_public value.inviter.0.0 value.kem_public in
+    parts ∙ ap (λ (l : List ℕ). 0x43 ∷ 1 ∷ value.set ∷ l) rest
+    ∙ ap (λ (l : List ℕ). 0x43 ∷ 1 ∷ (l ++ (value.lms_public ++ (value.inviter.0.0 ++ value.kem_public)))) (sym set.byte)

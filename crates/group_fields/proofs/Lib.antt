@@ -1,2 +1,6 @@
-pub mod Faults
 pub mod CardBytes
+pub mod IdBytes
+pub mod LayoutLaws
+pub mod ReadSteps
+pub mod Shifts
+pub mod WholeReads

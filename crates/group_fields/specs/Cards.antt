@@ -1,8 +1,11 @@
--- Cards: their values, the one spelling of each, and the fields that a reader looks at.
-use Rattle.std.specs.Prelude.{◌≡◌, ℕ, IsTrue, ◌||◌, ◌&&◌, ◌==◌, if◌then◌else◌, List, [], ◌∷◌, ◌++◌, length, take, drop, slice_index}
+-- Cards: their format, and which cards have a spelling.
+use Rattle.std.proofs.Common.{◌≡◌, ℕ, IsTrue, ◌||◌, ◌&&◌, ◌==◌, if◌then◌else◌, List, [], ◌∷◌, length, take, drop}
+use Rattle.std.proofs.Common.{Some, refl}
 use Rattle.std.specs.Int.{w8, w32, from_be_bytes}
 use Rattle.sha2.specs.Sha256.{sha256}
-use Rattle.group_fields.specs.Fields.{Field, IsLeastFault, any_bytes, number_from}
+use Rattle.group_fields.specs.Layouts as layouts
+use Rattle.group_fields.specs.Layouts.{Layout, shaped, verbatim, renamed, bytes_of, digest, known, number, written}
+use Rattle.group_fields.specs.Layouts.{◌>>=◌}
 use Rattle.group_fields.specs.declared.card.Card.{Card}
 use Rattle.group_fields.specs.declared.fault.FieldFault.{FieldFault}
 
@@ -10,65 +13,63 @@ use Rattle.group_fields.specs.declared.fault.FieldFault.{FieldFault}
 abbrev pub key_size : ℕ → ℕ
 key_size set = if set == 1 then 1158 else 33
 
--- the types of the LMS public key and of its one-time keys, as the key begins with them (RFC 8554, section 5.3)
-abbrev pub lms_type : Card → ℕ
-lms_type card = from_be_bytes w32 (take 4 card.lms_public)
-
-abbrev pub one_time_type : Card → ℕ
-one_time_type card = from_be_bytes w32 (take 4 (drop 4 card.lms_public))
-
--- the cards that have a spelling: height 10 with set 1, height 5 or 10 with set 2
-pub record HasSpelling (card : Card) : Type 0 where
-  pub set : IsTrue ((card.set == 1) || (card.set == 2))
-  pub lms_type : IsTrue ((lms_type card == 6) || ((card.set == 2) && (lms_type card == 5)))
-  pub one_time_type : one_time_type card ≡ 3
-  pub kem_public : length card.kem_public ≡ key_size card.set
-
--- tag, version, set, LMS public key, inviter, public key
-unfoldable pub spelling : Card → List ℕ
-spelling card = 0x43 ∷ 1 ∷ card.set ∷ (card.lms_public ++ card.inviter.0.0 ++ card.kem_public)
-
--- Bytes spell a card.
-pub record Spells (card : Card) (bytes : List ℕ) : Type 0 where
-  pub has_spelling : HasSpelling card
-  pub lms_public : length card.lms_public ≡ 56
-  pub inviter : length card.inviter.0.0 ≡ 32
-  pub whole : bytes ≡ spelling card
-
--- a card's id: the digest of its bytes
-unfoldable pub card_id : Card → List ℕ
-card_id card = sha256 (spelling card)
-
 -- the least of the types that the LMS public key of a set may have; the greatest is 6
 abbrev pub least_lms_type : ℕ → ℕ
 least_lms_type set = if set == 1 then 6 else 5
 
--- tag, version and set
-abbrev pub front_fields : List Field
-front_fields = number_from w8 0x43 0x43 ∷ number_from w8 1 1 ∷ number_from w8 1 2 ∷ []
+-- the LMS public key of a set (RFC 8554, section 5.3): its type, its one-time type, I and T[1]
+unfoldable pub lms_public : ℕ → Layout (List ℕ)
+lms_public set = verbatim (do
+  lms_type ← number w32 (least_lms_type set) 6
+  one_time_type ← known (0 ∷ 0 ∷ 0 ∷ 3 ∷ [])
+  identifier ← bytes_of 16
+  bytes_of 32)
 
--- the LMS public key of a set: its type, its one-time type, I and T[1]
-abbrev pub lms_public_fields : ℕ → List Field
-lms_public_fields set = number_from w32 (least_lms_type set) 6 ∷ number_from w32 3 3 ∷ any_bytes 16 ∷ any_bytes 32 ∷ []
+-- a card of one of the sets from the least to the greatest: tag, version, set, LMS public key, inviter, public key
+unfoldable pub card_of_sets : ℕ → ℕ → Layout Card
+card_of_sets least greatest = shaped (do
+  tag ← known (0x43 ∷ [])
+  version ← known (1 ∷ [])
+  set ← number w8 least greatest
+  lms_public ← lms_public set
+  inviter ← digest
+  bytes_of (key_size set))
+    (renamed
+    (λ (tag, (version, (set, (lms_public, (inviter, kem_public))))).
+    record { set = set; lms_public = lms_public; inviter = record { 0 = inviter }; kem_public = kem_public })
+    (λ card. Some (tt, (tt, (card.set, (card.lms_public, (card.inviter.0, card.kem_public))))))
+    (λ fields. refl))
 
--- inviter and public key
-abbrev pub key_fields : ℕ → List Field
-key_fields set = any_bytes 32 ∷ any_bytes (key_size set) ∷ []
+-- a card of either set
+abbrev pub card : Layout Card
+card = card_of_sets 1 2
 
--- the fields of a card of a set
-abbrev pub card_fields : ℕ → List Field
-card_fields set = front_fields ++ (lms_public_fields set ++ key_fields set)
+-- Bytes spell a card.
+abbrev pub Spells : Card → List ℕ → Type 0
+Spells value bytes = layouts.Spells card bytes value
 
--- The least fault of bytes as a card. Which fields come behind the set depends on it.
+-- The least fault of bytes as a card.
 abbrev pub IsCardFault : List ℕ → FieldFault → Type 0
-IsCardFault bytes fault = IsLeastFault 0 (card_fields (slice_index bytes 2)) bytes fault
+IsCardFault bytes fault = layouts.IsLeastFault card bytes fault
 
--- the card that bytes spell, each field from its place
-abbrev pub card_of : List ℕ → Card
-card_of bytes =
-    record {
-      set = slice_index bytes 2;
-      lms_public = take 56 (drop 3 bytes);
-      inviter = record { 0 = record { 0 = take 32 (drop 59 bytes) } };
-      kem_public = drop 91 bytes;
-    }
+-- the spelling of a card
+unfoldable pub spelling : Card → List ℕ
+spelling value = written card value
+
+-- a card's id: the digest of its bytes
+unfoldable pub card_id : Card → List ℕ
+card_id value = sha256 (spelling value)
+
+-- the types of the LMS public key and of its one-time keys, as the key begins with them
+abbrev pub lms_type : Card → ℕ
+lms_type value = from_be_bytes w32 (take 4 value.lms_public)
+
+abbrev pub one_time_type : Card → ℕ
+one_time_type value = from_be_bytes w32 (take 4 (drop 4 value.lms_public))
+
+-- the cards that have a spelling: height 10 with set 1, height 5 or 10 with set 2
+pub record HasSpelling (value : Card) : Type 0 where
+  pub set : IsTrue ((value.set == 1) || (value.set == 2))
+  pub lms_type : IsTrue ((lms_type value == 6) || ((value.set == 2) && (lms_type value == 5)))
+  pub one_time_type : one_time_type value ≡ 3
+  pub kem_public : length value.kem_public ≡ key_size value.set

@@ -1,7 +1,10 @@
+pub mod CardViews
 pub mod Cards
 pub mod Cause
 pub mod Counts
 pub mod Fields
+pub mod Ids
+pub mod LayoutReads
+pub mod Layouts
 pub mod Plan
 pub mod Reading
-pub mod Reads

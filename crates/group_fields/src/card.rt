@@ -1,5 +1,5 @@
 ghost use Rattle.std.specs.Prelude.{◌≡◌, ◌↔◌, List, ℕ, IsTrue, IfOk};
-ghost use Rattle.group_fields.specs.Cards.{HasSpelling, Spells, key_size, least_lms_type};
+ghost use Rattle.group_fields.specs.Cards.{HasSpelling, Spells, key_size, least_lms_type, spelling};
 ghost use Rattle.group_fields.specs.declared.card.Card.{Card};
 
 use crate::Memory;
@@ -12,7 +12,7 @@ pub(crate) const TAG: u8 = 0x43;
 pub(crate) const VERSION: u8 = 1;
 
 // The one-time type of each LMS public key, and the greatest LMS type.
-pub(crate) const ONE_TIME_TYPE: u32 = 3;
+pub(crate) const ONE_TIME_TYPE: [u8; 4] = [0, 0, 0, 3];
 
 pub(crate) const GREATEST_LMS_TYPE: u32 = 6;
 
@@ -39,7 +39,7 @@ impl Card {
         (self.set == 1 || self.set == 2)
             && least_lms_type(self.set) <= lms_type
             && lms_type <= GREATEST_LMS_TYPE
-            && u32::from_be_bytes([e, f, g, h]) == ONE_TIME_TYPE
+            && u32::from_be_bytes([e, f, g, h]) == u32::from_be_bytes(ONE_TIME_TYPE)
             && self.kem_public.len() == key_size(self.set)
     }
 }
@@ -59,10 +59,10 @@ pub(crate) fn key_size(set: u8) -> usize
 }
 
 /// The one spelling of a card.
-#[tactic(auto, unfolding(crate::specs::Cards::spelling))]
 pub fn write_card(alloc: Global, card: &Card) -> Result<Bytes, Memory>
     requires { HasSpelling card.now }
-    ensures { IfOk result (λ bytes. Spells card.now bytes) }
+    ensures spells { IfOk result (λ bytes. Spells card.now bytes) }
+    ensures whole { IfOk result (λ bytes. bytes ≡ spelling card.now) }
 {
     let mut bytes = Vec::new(alloc);
     bytes.extend_from_slice(&[TAG, VERSION, card.set])?;
@@ -73,7 +73,7 @@ pub fn write_card(alloc: Global, card: &Card) -> Result<Bytes, Memory>
 }
 
 /// The law of spellings: bytes spell one card at most, and a card has one spelling.
-#[tactic(auto, using(crate::proofs::CardBytes::same_from_bytes))]
+#[tactic(auto, using(crate::proofs::CardBytes::one_card, crate::proofs::CardBytes::one_card_spelling))]
 pub fn cards_are_spelled_once()
     ensures one_card { (bytes : List ℕ) (a b : Card) → Spells a bytes → Spells b bytes → a ≡ b }
     ensures one_spelling { (card : Card) (a b : List ℕ) → Spells card a → Spells card b → a ≡ b }

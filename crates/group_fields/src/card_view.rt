@@ -1,6 +1,7 @@
-ghost use Rattle.std.specs.Prelude.{◌≡◌, ◌<◌, ◌+◌, ◌^◌, IfOk, IfErr, slice_index};
-ghost use Rattle.group_fields.specs.Cards.{IsCardFault, Spells, card_fields, card_id, card_of, front_fields, key_fields, lms_public_fields};
-ghost use Rattle.group_fields.specs.Reads.{TakesFields, fault_in, first_fault};
+ghost use Rattle.std.specs.Prelude.{◌≡◌, ◌<◌, ◌≤◌, ◌+◌, ◌^◌, IfOk, IfErr, OnOk};
+ghost use Rattle.group_fields.specs.CardViews.{card_of};
+ghost use Rattle.group_fields.specs.Cards.{IsCardFault, Spells, card, card_id, card_of_sets, lms_public};
+ghost use Rattle.group_fields.specs.LayoutReads.{Takes, read_whole, whole_seen};
 ghost use Rattle.group_fields.specs.declared.card.Card.{Card};
 ghost use Rattle.group_fields.specs.declared.fault.FieldFault.{FieldFault};
 
@@ -9,25 +10,26 @@ use crate::bytes::Bytes;
 use crate::card::{Card, GREATEST_LMS_TYPE, ONE_TIME_TYPE, TAG, VERSION, key_size, least_lms_type};
 use crate::cursor::Cursor;
 use crate::fault::FieldFault;
-use crate::fields::{end, take_bytes, take_u8, take_u32};
+use crate::fields::{end, take_bytes, take_digest, take_known, take_u8, take_u32};
 use crate::ids::{Digest, MemberId};
 use sha2::{Digest as Hasher, Sha256};
 use std::alloc::Global;
 use std::marker::Model;
 
-// Where the fields begin.
-const SET_PLACE: usize = 2;
-
-const LMS_PLACE: usize = 3;
-
-const INVITER_PLACE: usize = 59;
-
-const KEM_PLACE: usize = 91;
+// The values of a card's fields.
+#[derive(Debug, Drop)]
+pub struct CardParts<'a> {
+    set: u8,
+    lms_public: &'a [u8; 56],
+    inviter: MemberId,
+    kem_public: &'a [u8],
+}
 
 /// A card that is lent out of the bytes that spell it. Contracts see the card.
 #[derive(Debug, Drop)]
 pub struct CardView<'a> {
     bytes: &'a [u8],
+    parts: CardParts<'a>,
 }
 
 impl<'a> Model for CardView<'a> {
@@ -35,14 +37,14 @@ impl<'a> Model for CardView<'a> {
 
     ghost Value = { Card };
 
-    ghost use Rattle.group_fields.specs.Cards.{Spells, card_of};
+    ghost use Rattle.group_fields.specs.CardViews.{card_of};
+    ghost use Rattle.group_fields.specs.Cards.{Spells};
 
-    ghost view = { λ card. card_of card.bytes.now };
+    ghost view = { λ card. card_of card.parts };
 
-    ghost invariant = { λ card. Spells (card_of card.bytes.now) card.bytes.now };
+    ghost invariant = { λ card. Spells (card_of card.parts) card.bytes.now };
 }
 
-#[tactic(auto, using(crate::proofs::CardBytes::is_long))]
 impl<'a> CardView<'a> {
     /// The bytes that were read.
     pub fn bytes(&self) -> &'a [u8]
@@ -52,7 +54,7 @@ impl<'a> CardView<'a> {
     }
 
     /// The member that the card is of: SHA-256 of its bytes.
-    #[tactic(auto, using(crate::proofs::CardBytes::is_long), unfolding(crate::specs::Cards::card_id))]
+    #[tactic(auto, using(crate::proofs::CardBytes::id_is))]
     pub fn id(&self) -> MemberId
         ensures { result.0.0 ≡ card_id self.now }
     {
@@ -63,30 +65,28 @@ impl<'a> CardView<'a> {
     pub fn set(&self) -> u8
         ensures { result ≡ self.now.set }
     {
-        self.bytes[SET_PLACE]
+        self.parts.set
     }
 
     /// The LMS public key.
     pub fn lms_public(&self) -> &'a [u8; 56]
         ensures { result.now ≡ self.now.lms_public }
     {
-        self.bytes[LMS_PLACE..INVITER_PLACE].as_array().unwrap()
+        self.parts.lms_public
     }
 
     /// The only member that may take this one into a group. 32 zero bytes stand for nobody.
     pub fn inviter(&self) -> MemberId
         ensures { result ≡ self.now.inviter }
     {
-        let mut id = [0; 32];
-        id.copy_from_slice(&self.bytes[INVITER_PLACE..KEM_PLACE]);
-        MemberId(Digest(id))
+        self.parts.inviter
     }
 
     /// The public key of the key encapsulation.
     pub fn kem_public(&self) -> &'a [u8]
         ensures { result.now ≡ self.now.kem_public }
     {
-        &self.bytes[KEM_PLACE..]
+        self.parts.kem_public
     }
 
     // The card as a value of its own.
@@ -103,57 +103,62 @@ impl<'a> CardView<'a> {
     }
 }
 
-// The tag, the version and the set.
-#[tactic(auto, using(crate::proofs::Faults::skips, crate::proofs::Faults::stops))]
-fn take_front(cursor: &mut Cursor<'_>) -> Result<u8, FieldFault>
-    requires { cursor.old.place < 2 ^ 16 }
-    ensures fields { TakesFields front_fields cursor.old cursor.new result }
-    ensures set { IfOk result (λ set. set ≡ slice_index cursor.old.whole (cursor.old.place + 2)) }
+// The LMS public key of a set.
+#[tactic(auto, using(crate::proofs::ReadSteps::since_is), unfolding(crate::specs::Cards::lms_public, crate::specs::LayoutReads::read))]
+fn take_lms_public<'a>(cursor: &mut Cursor<'a>, set: u8) -> Result<&'a [u8; 56], FieldFault>
+    requires { cursor.old.place < 2 ^ 31 }
+    ensures takes { Takes (λ key. key.now) (lms_public set) cursor.old cursor.new result }
+    ensures moved { OnOk result (cursor.new.place ≡ cursor.old.place + 56) }
 {
-    take_u8(cursor, TAG, TAG)?;
-    take_u8(cursor, VERSION, VERSION)?;
-    take_u8(cursor, 1, 2)
-}
-
-// The LMS public key.
-#[tactic(auto, using(crate::proofs::Faults::skips, crate::proofs::Faults::stops))]
-fn take_lms_public(cursor: &mut Cursor<'_>, set: u8) -> Result<(), FieldFault>
-    requires { cursor.old.place < 2 ^ 16 }
-    ensures { TakesFields (lms_public_fields set) cursor.old cursor.new result }
-{
+    let from = cursor.place();
     take_u32(cursor, least_lms_type(set), GREATEST_LMS_TYPE)?;
-    take_u32(cursor, ONE_TIME_TYPE, ONE_TIME_TYPE)?;
+    take_known(cursor, &ONE_TIME_TYPE)?;
     take_bytes(cursor, 16)?;
     take_bytes(cursor, 32)?;
-    Ok(())
+    let _end = cursor.place();
+    Ok(cursor.since(from).as_array().unwrap())
 }
 
-// The inviter and the public key.
-#[tactic(auto, using(crate::proofs::Faults::skips, crate::proofs::Faults::stops))]
-fn take_keys(cursor: &mut Cursor<'_>, set: u8) -> Result<(), FieldFault>
-    requires { cursor.old.place < 2 ^ 16 }
-    ensures { TakesFields (key_fields set) cursor.old cursor.new result }
+// The fields of a card of one of the sets from the least to the greatest.
+#[tactic(auto, unfolding(crate::specs::Cards::card_of_sets, crate::specs::LayoutReads::read))]
+fn take_parts<'a>(
+    cursor: &mut Cursor<'a>,
+    least: u8,
+    greatest: u8,
+) -> Result<CardParts<'a>, FieldFault>
+    requires { cursor.old.place < 2 ^ 30 }
+    ensures takes { Takes card_of (card_of_sets least greatest) cursor.old cursor.new result }
+    ensures moved { OnOk result (cursor.new.place ≤ cursor.old.place + 1249) }
 {
-    take_bytes(cursor, 32)?;
-    take_bytes(cursor, key_size(set))?;
-    Ok(())
+    take_known(cursor, &[TAG])?;
+    take_known(cursor, &[VERSION])?;
+    let set = take_u8(cursor, least, greatest)?;
+    let lms_public = take_lms_public(cursor, set)?;
+    let inviter = take_digest(cursor)?;
+    let kem_public = take_bytes(cursor, key_size(set))?;
+    Ok(CardParts {
+        set,
+        lms_public,
+        inviter: MemberId(inviter),
+        kem_public,
+    })
 }
 
-// Reads the fields of a card, and nothing may be left over.
-fn check_card(bytes: &[u8]) -> Result<(), FieldFault>
-    ensures { fault_in result ≡ first_fault (card_fields (slice_index bytes.now 2)) 0 bytes.now }
+// The fields of a card, and nothing may be left over.
+#[tactic(auto, using(crate::proofs::WholeReads::whole_end, crate::proofs::WholeReads::whole_stop))]
+fn read_parts(bytes: &[u8]) -> Result<CardParts<'_>, FieldFault>
+    ensures { read_whole card 0 bytes.now ≡ whole_seen card_of result }
 {
     let mut cursor = Cursor::new(bytes);
-    let set = take_front(&mut cursor)?;
-    take_lms_public(&mut cursor, set)?;
-    take_keys(&mut cursor, set)?;
-    end(&mut cursor)
+    let parts = take_parts(&mut cursor, 1, 2)?;
+    end(&mut cursor)?;
+    Ok(parts)
 }
 
 /// The card that the bytes spell, all of them. It lends its fields out of them.
 ///
-/// A fault is the one with the least place: `Short` the first field that does not fit, `Range` the first with a value that is
-/// not allowed, `Excess` the first byte that is left over.
+/// A fault is the one with the least place: `Short` the first field that does not fit, `Range` the first with a value
+/// that is not allowed, `Excess` the first byte that is left over.
 pub fn read_card(bytes: &[u8]) -> Result<CardView<'_>, FieldFault>
     // What is read is what the bytes spell.
     ensures found { IfOk result (λ card. Spells card bytes.now) }
@@ -165,6 +170,6 @@ pub fn read_card(bytes: &[u8]) -> Result<CardView<'_>, FieldFault>
     ensures refused { IfErr result (λ fault. IsCardFault bytes.now fault) }
     ensures least { (fault : FieldFault) → IsCardFault bytes.now fault → result ≡ Err fault }
 {
-    check_card(bytes)?;
-    Ok(CardView { bytes })
+    let parts = read_parts(bytes)?;
+    Ok(CardView { bytes, parts })
 }

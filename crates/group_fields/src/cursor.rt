@@ -38,6 +38,14 @@ impl<'a> Cursor<'a> {
         self.next
     }
 
+    /// The bytes from a place up to the next byte.
+    pub fn since(&self, place: usize) -> &'a [u8]
+        requires { place ≤ self.now.place }
+        ensures { result.now ≡ take (self.now.place - place) (drop place self.now.whole) }
+    {
+        &self.bytes[place..self.next]
+    }
+
     /// The next `count` bytes, where as many are left. Otherwise the reader stays where it is.
     pub fn take(&mut self, count: usize) -> Option<&'a [u8]>
         ensures part { IfSome result (λ part. part.now ≡ take count (drop self.old.place self.old.whole)) }

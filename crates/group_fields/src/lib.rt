@@ -11,6 +11,7 @@ mod cursor;
 mod fault;
 mod fields;
 mod ids;
+mod ids_view;
 #[cfg(test)]
 mod tests;
 mod text;
@@ -22,7 +23,12 @@ pub use cards::Cards;
 pub use counts::Counts;
 pub use cursor::Cursor;
 pub use fault::FieldFault;
+pub use fields::{
+    end, take_bytes, take_counted_ids, take_digest, take_ids, take_known, take_next_id, take_u8,
+    take_u16, take_u32,
+};
 pub use ids::{Digest, GroupId, MemberId, MessageId};
+pub use ids_view::IdsView;
 use std::alloc::AllocError;
 pub use text::Text;
 

@@ -1,4 +1,5 @@
 mod cards;
+mod fields;
 
 use super::*;
 use std::test::Fail;

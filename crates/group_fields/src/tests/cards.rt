@@ -37,12 +37,11 @@ fn spelled(alloc: Global, set: u8, lms_type: u8, length: usize) -> Result<Vec<u8
     Ok(bytes)
 }
 
-// The bytes from a place up to another.
-fn part(bytes: &[u8], from: usize, end: usize) -> Result<&[u8], Fail> {
-    Ok(bytes.get(from..end).ok_or("the bytes are long enough")?)
+fn fault_of(bytes: &[u8]) -> Option<FieldFault> {
+    read_card(bytes).err()
 }
 
-// The fault of a card with one byte changed.
+// The fault of the first bytes of a card with one byte changed.
 fn fault_with(
     alloc: Global,
     (set, lms_type, length): (u8, u8, usize),
@@ -53,27 +52,71 @@ fn fault_with(
     if let Some(byte) = bytes.get_mut(place) {
         *byte = value;
     }
-    Ok(read_card(&bytes).err())
+    Ok(fault_of(&bytes))
+}
+
+// A card's id, where each of its fields is lent from its place.
+fn id_of(bytes: &[u8]) -> Option<MemberId> {
+    let card = read_card(bytes).ok()?;
+    let lent = card.bytes() == bytes
+        && Some(card.lms_public().as_slice()) == bytes.get(3..59)
+        && Some(card.inviter().0.0.as_slice()) == bytes.get(59..91)
+        && Some(card.kem_public()) == bytes.get(91..)
+        && Some(&card.set()) == bytes.get(2);
+    if lent { Some(card.id()) } else { None }
+}
+
+// A card that was read, kept in a list and written again.
+fn written_again(alloc: Global, bytes: &[u8]) -> Result<Option<Bytes>, AllocError> {
+    let mut cards = Cards::new(alloc);
+    let Ok(card) = read_card(bytes) else {
+        return Ok(None);
+    };
+    cards.push(&card)?;
+    let kept = Cards::from(cards.into_vec());
+    if kept.is_empty() || kept.len() != 1 {
+        return Ok(None);
+    }
+    match kept.as_slice().first() {
+        Some(card) if card.has_spelling() => Ok(Some(write_card(alloc, card)?)),
+        _ => Ok(None),
+    }
+}
+
+fn has_spelling(
+    alloc: Global,
+    set: u8,
+    lms_type: u8,
+    one_time_type: u8,
+    length: usize,
+) -> Result<bool, AllocError> {
+    let mut lms_public = [0; 56];
+    lms_public[3] = lms_type;
+    lms_public[7] = one_time_type;
+    let card = Card {
+        set,
+        lms_public,
+        inviter: MemberId(Digest([0; 32])),
+        kem_public: Bytes::from(vec![in alloc; 0; length]?),
+    };
+    Ok(card.has_spelling())
 }
 
 #[test]
-fn reads_cards_of_both_sets(rt: HostRuntime) -> Result<(), Fail> {
+fn reads_and_writes_cards_of_both_sets(rt: HostRuntime) -> Result<(), Fail> {
+    let alloc = rt.alloc();
     for (set, lms_type, length, id) in CASES {
-        let bytes = spelled(rt.alloc(), set, lms_type, length)?;
+        let bytes = spelled(alloc, set, lms_type, length)?;
         assert_eq!(rt; bytes.len(), length);
-        let card = read_card(&bytes).map_err(|_| "the bytes are a card")?;
-        assert_eq!(rt; card.bytes(), bytes.as_slice());
-        assert_eq!(rt; card.id(), MemberId(Digest(id)));
-        assert_eq!(rt; card.set(), set);
-        assert_eq!(rt; card.lms_public().as_slice(), part(&bytes, 3, 59)?);
-        assert_eq!(rt; card.inviter().0.0.as_slice(), part(&bytes, 59, 91)?);
-        assert_eq!(rt; card.kem_public(), part(&bytes, 91, length)?);
+        assert_eq!(rt; id_of(&bytes), Some(MemberId(Digest(id))));
+        let again = written_again(alloc, &bytes)?.ok_or("the bytes are a card")?;
+        assert_eq!(rt; again.as_slice(), bytes.as_slice());
     }
     Ok(())
 }
 
 #[test]
-fn refuses_a_card_that_is_cut(rt: HostRuntime) -> Result<(), Fail> {
+fn refuses_each_cut_at_the_field_that_does_not_fit(rt: HostRuntime) -> Result<(), Fail> {
     let bytes = spelled(rt.alloc(), 2, 5, 124)?;
     for length in 0..124u32 {
         let mut place = 0;
@@ -82,14 +125,10 @@ fn refuses_a_card_that_is_cut(rt: HostRuntime) -> Result<(), Fail> {
                 place = begins;
             }
         }
-        let fault = read_card(part(&bytes, 0, length as usize)?).err();
-        assert_eq!(rt; fault, Some(FieldFault::Short(place)), "cut at {length}");
-    }
-    for length in [91, 124, 125, 1248] {
-        let bytes = spelled(rt.alloc(), 1, 6, length)?;
+        let cut = bytes.get(..length as usize).ok_or("there are as many")?;
         assert_eq!(rt;
-            read_card(&bytes).err(),
-            Some(FieldFault::Short(91)),
+            fault_of(cut),
+            Some(FieldFault::Short(place)),
             "cut at {length}"
         );
     }
@@ -97,7 +136,8 @@ fn refuses_a_card_that_is_cut(rt: HostRuntime) -> Result<(), Fail> {
 }
 
 #[test]
-fn refuses_values_out_of_range(rt: HostRuntime) -> Result<(), Fail> {
+fn refuses_the_least_place(rt: HostRuntime) -> Result<(), Fail> {
+    let alloc = rt.alloc();
     let one = (1, 6, 1249);
     let two = (2, 5, 124);
     let cases = [
@@ -122,55 +162,18 @@ fn refuses_values_out_of_range(rt: HostRuntime) -> Result<(), Fail> {
         // The set decides which type and which length are asked for.
         (two, 2, 1, Some(FieldFault::Range(3))),
         ((2, 6, 124), 2, 1, Some(FieldFault::Short(91))),
+        ((1, 6, 1248), 11, 11, Some(FieldFault::Short(91))),
         (one, 2, 2, Some(FieldFault::Excess(124))),
+        ((2, 5, 125), 11, 11, Some(FieldFault::Excess(124))),
+        ((1, 6, 1289), 11, 11, Some(FieldFault::Excess(1249))),
         // The least place wins.
         ((9, 9, 2000), 0, 0, Some(FieldFault::Range(0))),
         ((9, 9, 2000), 1, 1, Some(FieldFault::Range(2))),
         ((2, 9, 11), 1, 1, Some(FieldFault::Range(3))),
     ];
     for (card, place, value, want) in cases {
-        let fault = fault_with(rt.alloc(), card, place, value)?;
+        let fault = fault_with(alloc, card, place, value)?;
         assert_eq!(rt; fault, want, "byte {place} is {value}");
-    }
-    Ok(())
-}
-
-#[test]
-fn refuses_bytes_left_over(rt: HostRuntime) -> Result<(), Fail> {
-    for (set, lms_type, length, _) in CASES {
-        for more in [1, 2, 40] {
-            let bytes = spelled(rt.alloc(), set, lms_type, length + more)?;
-            assert_eq!(rt;
-                read_card(&bytes).err(),
-                Some(FieldFault::Excess(length as u32)),
-                "{more} more"
-            );
-        }
-    }
-    Ok(())
-}
-
-#[test]
-fn writes_what_it_read(rt: HostRuntime) -> Result<(), Fail> {
-    let alloc = rt.alloc();
-    let mut cards = Cards::new(alloc);
-    assert!(rt; cards.is_empty());
-    for (set, lms_type, length, _) in CASES {
-        let bytes = spelled(alloc, set, lms_type, length)?;
-        let card = read_card(&bytes).map_err(|_| "the bytes are a card")?;
-        cards.push(&card)?;
-    }
-    assert_eq!(rt; cards.len(), 3);
-    let cards = Cards::from(cards.into_vec());
-    for (card, (set, lms_type, length, id)) in cards.as_slice().iter().zip(CASES) {
-        assert!(rt; card.has_spelling());
-        let bytes = write_card(alloc, card)?;
-        assert_eq!(rt;
-            bytes.as_slice(),
-            spelled(alloc, set, lms_type, length)?.as_slice()
-        );
-        let again = read_card(bytes.as_slice()).map_err(|_| "a card was written")?;
-        assert_eq!(rt; again.id(), MemberId(Digest(id)));
     }
     Ok(())
 }
@@ -191,16 +194,8 @@ fn tells_which_cards_have_a_spelling(rt: HostRuntime) -> Result<(), Fail> {
         (3, 6, 3, 33, false),
     ];
     for (set, lms_type, one_time_type, length, want) in cases {
-        let mut lms_public = [0; 56];
-        lms_public[3] = lms_type;
-        lms_public[7] = one_time_type;
-        let card = Card {
-            set,
-            lms_public,
-            inviter: MemberId(Digest([0; 32])),
-            kem_public: Bytes::from(vec![in alloc; 0; length]?),
-        };
-        assert_eq!(rt; card.has_spelling(), want, "set {set}, type {lms_type}");
+        let has = has_spelling(alloc, set, lms_type, one_time_type, length)?;
+        assert_eq!(rt; has, want, "set {set}, type {lms_type}");
     }
     Ok(())
 }

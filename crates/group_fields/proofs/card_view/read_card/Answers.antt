@@ -1,31 +1,33 @@
-use Rattle.std.proofs.Common.{Ok, sym, ap}
 use Rattle.std.proofs.lemmas.Result.{err_from_is_err_and}
-use Rattle.group_fields.proofs.CardBytes.{card_is, fault_is, is_fault, never_refused, spells_from_none}
+use Rattle.group_fields.specs.Cards.{card}
+use Rattle.group_fields.specs.CardViews.{card_of}
+use Rattle.group_fields.proofs.CardBytes.{card_plain}
+use Rattle.group_fields.proofs.LayoutLaws.{exact_whole, least, whole_found, whole_read}
 use Rattle.group_fields.proofs.card_view.read_card.Goals as goal
 
-pub returns-in_err-check_card-clause-only : goal.returns-in_err-check_card-clause-only
-returns-in_err-check_card-clause-only c =
+pub returns-in_err-parts-clause-only : goal.returns-in_err-parts-clause-only
+returns-in_err-parts-clause-only c =
     let p = err_from_is_err_and c.from_residual.result c.from_residual.ensures.1 in
-    rw (p.1, p.2) (λ card spells. absurd (never_refused c.args.bytes.now c.in_err-check_card.field-0.0 c.in_err-check_card.ensures card spells))
+    rw (p.1, p.2) (λ h s. absurd (let ok = whole_read card c.args.bytes.now h s in let err = c.in_err-parts.ensures in cc))
 
-pub returns-in_err-check_card-clause-refused : goal.returns-in_err-check_card-clause-refused
-returns-in_err-check_card-clause-refused c =
+pub returns-in_err-parts-clause-refused : goal.returns-in_err-parts-clause-refused
+returns-in_err-parts-clause-refused c =
     let p = err_from_is_err_and c.from_residual.result c.from_residual.ensures.1 in
-    rw (p.1, p.2) (is_fault c.args.bytes.now c.in_err-check_card.field-0.0 c.in_err-check_card.ensures)
+    rw (p.1, p.2) (least card c.args.bytes.now c.in_err-parts.field-0.0 c.in_err-parts.ensures)
 
-pub returns-in_err-check_card-clause-least : goal.returns-in_err-check_card-clause-least
-returns-in_err-check_card-clause-least c =
+pub returns-in_err-parts-clause-least : goal.returns-in_err-parts-clause-least
+returns-in_err-parts-clause-least c =
     let p = err_from_is_err_and c.from_residual.result c.from_residual.ensures.1 in
-    rw (p.1, p.2) (λ fault is. let first = fault_is c.args.bytes.now fault is in let some = c.in_err-check_card.ensures in cc)
+    rw (p.1, p.2) (λ fault is. let e = exact_whole card c.args.bytes.now fault card_plain is.refused in let err = c.in_err-parts.ensures in cc)
 
 pub invariant_of-result : goal.invariant_of-result
-invariant_of-result c = spells_from_none c.args.bytes.now c.in_ok-check_card.ensures
+invariant_of-result c = whole_found card c.args.bytes.now (card_of c.in_ok-parts.parts) c.in_ok-parts.ensures
 
 pub returns-clause-found : goal.returns-clause-found
-returns-clause-found c = spells_from_none c.args.bytes.now c.in_ok-check_card.ensures
+returns-clause-found c = whole_found card c.args.bytes.now (card_of c.in_ok-parts.parts) c.in_ok-parts.ensures
 
 pub returns-clause-only : goal.returns-clause-only
-returns-clause-only c = λ card spells. ap Ok (sym (card_is card c.args.bytes.now spells))
+returns-clause-only c = λ h s. let ok = whole_read card c.args.bytes.now h s in let mine = c.in_ok-parts.ensures in cc
 
 pub returns-clause-least : goal.returns-clause-least
-returns-clause-least c = λ fault is. absurd (let first = fault_is c.args.bytes.now fault is in let none = c.in_ok-check_card.ensures in cc)
+returns-clause-least c = λ fault is. absurd (let e = exact_whole card c.args.bytes.now fault card_plain is.refused in let mine = c.in_ok-parts.ensures in cc)
