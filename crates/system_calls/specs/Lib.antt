@@ -1,0 +1,9 @@
+pub mod Errors
+pub mod Stored
+pub mod MemFiles
+pub mod InMemory
+pub mod Rows
+pub mod Machine
+pub mod LastFailure
+pub mod MemRandom
+pub mod MemOutput
