@@ -2,4 +2,5 @@ pub mod Crash
 pub mod Inverts
 pub mod Moments
 pub mod Overlays
-pub mod StreamLemmas
+pub mod ReadLemmas
+pub mod WriteLemmas

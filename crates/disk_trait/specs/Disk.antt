@@ -37,11 +37,3 @@ pub record Passes (before now : ℕ) (past since : ℕ → List ℕ → Type 0) 
   pub later : before ≤ now
   pub nothing_else : (from : ℕ) (c : List ℕ) → from ≤ before → since from c → past from c ⊎ image c
   pub keeps : (from : ℕ) (c : List ℕ) → from ≤ before → past from c → since from c
-
--- A crash at any moment from the first disk to the second leaves bytes that have P, and one before the first leaves what it
--- might have left then.
-pub record Throughout {D : Type 0} (clock : D → ℕ) (image_since : D → ℕ → List ℕ → Type 0) (first second : D)
-    (P : List ℕ → Type 0) : Type 0 where
-  pub later : clock first ≤ clock second
-  pub each : (c : List ℕ) → image_since second (clock first) c → P c
-  pub before : (from : ℕ) (c : List ℕ) → from ≤ clock first → image_since second from c → image_since first from c ⊎ P c

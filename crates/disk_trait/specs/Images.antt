@@ -1,9 +1,12 @@
 -- A disk in memory keeps the laws of a disk.
-use Rattle.std.proofs.Common.{◌≡◌, ℕ, ◌+◌, ◌-◌, ◌≤◌, min, List, [], ◌∷◌, ◌++◌, length, take, drop, replicate, refl, sym, ◌∙◌, ap, subst, arith, length-append, length-drop, append_assoc}
-use Rattle.std.proofs.lemmas.List.{length-take, length-replicate, take-append-le, take-take, take_min, take_all, take_at, drop_at}
+use Rattle.std.proofs.Common.{◌≡◌, ℕ, ◌+◌, ◌-◌, ◌≤◌, min, List, [], ◌∷◌, ◌++◌, length, take, drop, replicate, refl}
+use Rattle.std.proofs.Common.{sym, ◌∙◌, ap, subst, arith, length-append, length-drop, append_assoc}
+use Rattle.std.proofs.lemmas.List.{length-take, length-replicate, take-append-le, take-take, take_min, take_all}
+use Rattle.std.proofs.lemmas.List.{take_at, drop_at}
 use Rattle.disk_trait.specs.declared.memory.Change.{Change}
 use Rattle.disk_trait.specs.Disk.{Wrote}
-use Rattle.disk_trait.specs.Replay.{overwritten, overlaid, fresh, replayed, content_of, IsTornFrom, IsImage, IsImageSince}
+use Rattle.disk_trait.specs.Replay.{overwritten, overlaid, fresh, replayed, content_of, IsTornFrom, IsImage}
+use Rattle.disk_trait.specs.Replay.{IsImageSince}
 
 -- three parts one behind the other, of which the first ends at a place
 placed_wrote : (at : ℕ) (front part old : List ℕ) → length front ≡ at → take (min at (length old)) front ≡ take at old

@@ -1,7 +1,8 @@
 pub mod Disk
-pub mod File
+pub mod Failures
 pub mod FileDisk
 pub mod Images
+pub mod LockedFile
 pub mod MemDisk
 pub mod Moments
 pub mod Replay

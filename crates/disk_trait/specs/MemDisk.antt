@@ -1,8 +1,8 @@
 -- What a disk in memory shows of itself.
-use Rattle.std.specs.Prelude.{ℕ, List, length}
+use Rattle.std.specs.Prelude.{◌≡◌, ◌⊎◌, ℕ, List, length}
 use Rattle.disk_trait.specs.declared.memory.MemDisk.{MemDisk}
 use Rattle.group_fields.specs.declared.counts.Counts.{Counts}
-use Rattle.group_fields.specs.Plan.{KeepsPlan}
+use Rattle.group_fields.specs.Plan.{KeepsPlan, next_call}
 use Rattle.disk_trait.specs.Replay.{Standing, fresh, replayed, IsImageSince}
 
 -- what a read gives
@@ -36,3 +36,8 @@ images_since disk = IsImageSince disk.first.items disk.changes.items
 -- the same calls are to fail, and where there are none, none has failed
 abbrev pub Follows : MemDisk → MemDisk → Type 0
 Follows before now = KeepsPlan (failing_calls before) (failing_calls now) (counted before) (counted now)
+
+-- there was one call, which settled what was written or left all as it was
+pub record Syncs (before now : MemDisk) : Type 0 where
+  pub call : calls now ≡ next_call (calls before)
+  pub standing : (standing now ≡ fresh (content before)) ⊎ (standing now ≡ standing before)

@@ -42,12 +42,16 @@ pub trait Disk {
     /// The second comes of the first by calls of the disk.
     ghost follows: { Self → Self → Type 0 };
 
+    /// The second comes of the first by one sync, with no other call before it.
+    ghost syncs: { Self → Self → Type 0 } = { λ before now. Unit {0} };
+
     /// How many bytes there are.
     fn len(&mut self) -> Result<u64, DiskError>
         ensures length { told → IfOk result (λ n. n ≡ length (content self.old)) }
         ensures content { told → content self.new ≡ content self.old }
         ensures crash { told → MayNot (image self.old) (image self.new) }
-        ensures time { told → Passes (clock self.old) (clock self.new) (image_since self.old) (image_since self.new) (image self.new) }
+        ensures time { told → Passes (clock self.old) (clock self.new)
+            (image_since self.old) (image_since self.new) (image self.new) }
         ensures cause { HasCause Failed Memory (counts self.old) (counts self.new) result }
         ensures follows { follows self.old self.new };
 
@@ -57,7 +61,8 @@ pub trait Disk {
         ensures bytes { told → IfOk result (λ n. ReadsPart (content self.old) at n into.old into.new) }
         ensures content { told → content self.new ≡ content self.old }
         ensures crash { told → MayNot (image self.old) (image self.new) }
-        ensures time { told → Passes (clock self.old) (clock self.new) (image_since self.old) (image_since self.new) (image self.new) }
+        ensures time { told → Passes (clock self.old) (clock self.new)
+            (image_since self.old) (image_since self.new) (image self.new) }
         ensures cause { HasCause Failed Memory (counts self.old) (counts self.new) result }
         ensures follows { follows self.old self.new };
 
@@ -65,7 +70,8 @@ pub trait Disk {
     fn write_at(&mut self, at: u64, bytes: &[u8]) -> Result<(), DiskError>
         ensures written { told → OnOk result (Wrote at bytes.now (content self.old) (content self.new)) }
         ensures crash { told → MayTear at (length bytes.now) (image self.old) (image self.new) }
-        ensures time { told → Passes (clock self.old) (clock self.new) (image_since self.old) (image_since self.new) (image self.new) }
+        ensures time { told → Passes (clock self.old) (clock self.new)
+            (image_since self.old) (image_since self.new) (image self.new) }
         ensures cause { HasCause Failed Memory (counts self.old) (counts self.new) result }
         ensures follows { follows self.old self.new };
 
@@ -74,15 +80,18 @@ pub trait Disk {
         ensures durable { told → OnOk result (LeavesOnly (content self.old) (image self.new)) }
         ensures content { told → content self.new ≡ content self.old }
         ensures crash { told → MayNot (image self.old) (image self.new) }
-        ensures time { told → Passes (clock self.old) (clock self.new) (image_since self.old) (image_since self.new) (image self.new) }
+        ensures time { told → Passes (clock self.old) (clock self.new)
+            (image_since self.old) (image_since self.new) (image self.new) }
         ensures cause { HasCause Failed Memory (counts self.old) (counts self.new) result }
-        ensures follows { follows self.old self.new };
+        ensures follows { follows self.old self.new }
+        ensures syncs { syncs self.old self.new };
 
     /// What a read gives is one of the images, at every moment.
     ghost content_is_image: { (disk : Self) → told → image disk (content disk) };
 
     /// This moment is one of those since an earlier one.
-    ghost counts_now: { (disk : Self) (from : ℕ) (c : List ℕ) → told → from ≤ clock disk → image disk c → image_since disk from c };
+    ghost counts_now: { (disk : Self) (from : ℕ) (c : List ℕ) → told → from ≤ clock disk → image disk c
+        → image_since disk from c };
 
     /// Since this moment there is no other.
     ghost only_now: { (disk : Self) (c : List ℕ) → told → image_since disk (clock disk) c → image disk c };
@@ -90,5 +99,6 @@ pub trait Disk {
     /// No calls lead from a disk to itself, and calls after calls are calls.
     ghost follows_itself: { (disk : Self) → follows disk disk };
 
-    ghost follows_on: { (first second third : Self) → follows first second → follows second third → follows first third };
+    ghost follows_on: { (first second third : Self) → follows first second → follows second third
+        → follows first third };
 }

@@ -4,6 +4,7 @@
 
 mod disk;
 mod file;
+mod locked_file;
 mod memory;
 mod streams;
 #[cfg(test)]

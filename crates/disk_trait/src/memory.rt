@@ -1,4 +1,7 @@
-ghost use Rattle.std.specs.Prelude.{◌≡◌, ◌+◌, ◌-◌, ◌≤◌, ◌<◌, ◌^◌, ◌↔◌, min, max, Contains, IsTrue, IfErr, ℕ, List, [], ◌∷◌, ◌++◌, length, take, drop, map, IfOk, OnOk, OnErr, IsOk, vec_len, vec_capacity, cond, if◌then◌else◌};
+ghost use Rattle.std.specs.Prelude.{◌≡◌, ◌+◌, ◌-◌, ◌≤◌, ◌<◌, ◌^◌, ◌↔◌, min, max, Contains, IsTrue, ℕ, List, [], ◌∷◌};
+ghost use Rattle.std.specs.Prelude.{◌++◌};
+ghost use Rattle.std.specs.Prelude.{length, take, drop, map, IfErr, IfOk, OnOk, OnErr, IsOk, vec_len, vec_capacity};
+ghost use Rattle.std.specs.Prelude.{cond, if◌then◌else◌};
 ghost use Rattle.group_fields.specs.Cause.{HasCause};
 ghost use Rattle.group_fields.specs.Counts.{greatest_count, IsRaised};
 ghost use Rattle.group_fields.specs.Plan.{FailsAsPlanned};
@@ -6,7 +9,8 @@ ghost use Rattle.disk_trait.specs.Disk.{LeavesOnly, MayNot, MayTear, Passes, Rea
 ghost use Rattle.disk_trait.specs.Images.{content_image, image_now, only_image_now};
 ghost use Rattle.disk_trait.specs.declared.disk.DiskError.TheVariants.{Failed, Memory};
 ghost use Rattle.disk_trait.specs.declared.memory.Change.TheVariants.{Write, Sync};
-ghost use Rattle.disk_trait.specs.Replay.{overwritten, overlay, overlay_inverted, inverted, AllWrites, Settles, fresh, written_over, replayed, content_of, IsImage, crash_image};
+ghost use Rattle.disk_trait.specs.Replay.{overwritten, overlay, overlay_inverted, inverted, AllWrites, Settles};
+ghost use Rattle.disk_trait.specs.Replay.{fresh, written_over, replayed, content_of, IsImage, crash_image};
 
 use crate::{Disk, DiskError};
 use group_fields::{Bytes, Counts, Memory};
@@ -176,7 +180,11 @@ impl MemDisk {
     /// Counts a call, and a failure where this call is one of those that are to fail.
     fn begin(&mut self) -> Result<(), DiskError>
         ensures ok { OnOk result (self.new ≡ record self.old { asked = min (self.old.asked + 1) greatest_count }) }
-        ensures err { OnErr result ((IsRaised self.old.counts.faults self.new.counts.faults) × (self.new ≡ record self.old { asked = min (self.old.asked + 1) greatest_count; counts = record { faults = self.new.counts.faults; wants = self.old.counts.wants } })) }
+        ensures err { OnErr result ((IsRaised self.old.counts.faults self.new.counts.faults)
+            × (self.new ≡ record self.old {
+              asked = min (self.old.asked + 1) greatest_count;
+              counts = record { faults = self.new.counts.faults; wants = self.old.counts.wants };
+            })) }
         ensures planned { FailsAsPlanned Failed self.old.failing.items self.old.asked self.new.asked result }
         ensures failed { IfErr result (λ error. error ≡ Failed) }
     {
@@ -193,7 +201,8 @@ impl MemDisk {
         ensures bytes { OnOk result (self.new.bytes.items ≡ overwritten at bytes.now self.old.bytes.items) }
         ensures change { OnOk result (self.new.changes.items ≡ self.old.changes.items ++ Write at bytes.now ∷ []) }
         ensures first { self.new.first.items ≡ self.old.first.items }
-        ensures err { OnErr result ((self.new.bytes.items ≡ self.old.bytes.items) × (self.new.changes.items ≡ self.old.changes.items)) }
+        ensures err { OnErr result ((self.new.bytes.items ≡ self.old.bytes.items)
+            × (self.new.changes.items ≡ self.old.changes.items)) }
         ensures failing { self.new.failing.items ≡ self.old.failing.items }
         ensures counts { self.new.counts ≡ self.old.counts }
         ensures asked { self.new.asked ≡ self.old.asked }
@@ -274,7 +283,8 @@ fn grow(target: &mut Vec<u8>, length: usize) -> Result<(), Memory>
 }
 
 impl Disk for MemDisk {
-    ghost use Rattle.disk_trait.specs.MemDisk.{content, standing, failing_calls, calls, counted, moments, images_since, Follows};
+    ghost use Rattle.disk_trait.specs.MemDisk.{content, standing, failing_calls, calls, counted};
+    ghost use Rattle.disk_trait.specs.MemDisk.{moments, images_since, Follows, Syncs};
     ghost use Rattle.group_fields.specs.Plan.{keeps-itself, keeps-on};
 
     ghost told = { Unit {0} };
@@ -291,6 +301,8 @@ impl Disk for MemDisk {
 
     ghost follows = { Follows };
 
+    ghost syncs = { Syncs };
+
     ghost content_is_image = { λ disk told. content_image disk.first.items disk.bytes.items disk.changes.items disk.shows };
 
     ghost counts_now = { λ disk from c told early image. image_now disk.first.items disk.changes.items from c early image };
@@ -306,7 +318,8 @@ impl Disk for MemDisk {
         ensures content { content self.new ≡ content self.old }
         ensures standing { standing self.new ≡ standing self.old }
         ensures crash { MayNot (IsImage (standing self.old)) (IsImage (standing self.new)) }
-        ensures time { Passes (moments self.old) (moments self.new) (images_since self.old) (images_since self.new) (IsImage (standing self.new)) }
+        ensures time { Passes (moments self.old) (moments self.new)
+            (images_since self.old) (images_since self.new) (IsImage (standing self.new)) }
         ensures planned { FailsAsPlanned Failed (failing_calls self.old) (calls self.old) (calls self.new) result }
         ensures cause { HasCause Failed Memory (counted self.old) (counted self.new) result }
         ensures follows { Follows self.old self.new }
@@ -321,7 +334,8 @@ impl Disk for MemDisk {
         ensures content { content self.new ≡ content self.old }
         ensures standing { standing self.new ≡ standing self.old }
         ensures crash { MayNot (IsImage (standing self.old)) (IsImage (standing self.new)) }
-        ensures time { Passes (moments self.old) (moments self.new) (images_since self.old) (images_since self.new) (IsImage (standing self.new)) }
+        ensures time { Passes (moments self.old) (moments self.new)
+            (images_since self.old) (images_since self.new) (IsImage (standing self.new)) }
         ensures planned { FailsAsPlanned Failed (failing_calls self.old) (calls self.old) (calls self.new) result }
         ensures cause { HasCause Failed Memory (counted self.old) (counted self.new) result }
         ensures follows { Follows self.old self.new }
@@ -337,7 +351,8 @@ impl Disk for MemDisk {
         ensures unwritten { OnErr result (content self.new ≡ content self.old) }
         ensures unchanged { OnErr result (standing self.new ≡ standing self.old) }
         ensures crash { MayTear at (length bytes.now) (IsImage (standing self.old)) (IsImage (standing self.new)) }
-        ensures time { Passes (moments self.old) (moments self.new) (images_since self.old) (images_since self.new) (IsImage (standing self.new)) }
+        ensures time { Passes (moments self.old) (moments self.new)
+            (images_since self.old) (images_since self.new) (IsImage (standing self.new)) }
         ensures planned { FailsAsPlanned Failed (failing_calls self.old) (calls self.old) (calls self.new) result }
         ensures cause { HasCause Failed Memory (counted self.old) (counted self.new) result }
         ensures follows { Follows self.old self.new }
@@ -359,10 +374,12 @@ impl Disk for MemDisk {
         ensures unsettled { OnErr result (standing self.new ≡ standing self.old) }
         ensures content { content self.new ≡ content self.old }
         ensures crash { MayNot (IsImage (standing self.old)) (IsImage (standing self.new)) }
-        ensures time { Passes (moments self.old) (moments self.new) (images_since self.old) (images_since self.new) (IsImage (standing self.new)) }
+        ensures time { Passes (moments self.old) (moments self.new)
+            (images_since self.old) (images_since self.new) (IsImage (standing self.new)) }
         ensures planned { FailsAsPlanned Failed (failing_calls self.old) (calls self.old) (calls self.new) result }
         ensures cause { HasCause Failed Memory (counted self.old) (counted self.new) result }
         ensures follows { Follows self.old self.new }
+        ensures syncs { Syncs self.old self.new }
     {
         self.begin()?;
         match self.settle() {

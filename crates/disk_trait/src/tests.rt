@@ -1,12 +1,12 @@
 use super::*;
-use crate::file::folder_of;
-use crate::streams::{read_full, write_full};
-use group_fields::Text;
+use group_fields::{Memory, Text};
 use std::alloc::Global;
-use std::fs;
-use std::io::Read;
+use std::io::ErrorKind;
+use std::os::unix::fs::{MetadataExt, PermissionsExt};
 use std::process::Abort;
 use std::test::Fail;
+use std::{fs, io};
+use system_calls::{CallError, Failing, FileCalls, MemFiles, RealFiles, StoredFile};
 
 /// Four bytes that are settled, and two pending writes that overlap and go past the end.
 fn fill<D: Disk>(disk: &mut D) -> Result<(), DiskError> {
@@ -16,11 +16,17 @@ fn fill<D: Disk>(disk: &mut D) -> Result<(), DiskError> {
     disk.write_at(3, b"pqr")
 }
 
+/// What a disk reads from a place on, into a buffer of nine bytes.
+fn read_from<D: Disk>(disk: &mut D, at: u64) -> Result<(usize, [u8; 9]), DiskError> {
+    let mut into = [b'.'; 9];
+    let count = disk.read(at, &mut into)?;
+    Ok((count, into))
+}
+
 /// What a disk reads from its first byte on.
 fn check_content<D: Disk>(rt: &impl Abort, disk: &mut D, want: &[u8]) -> Result<(), DiskError> {
-    let mut into = [b'.'; 9];
     assert_eq!(rt; disk.len()?, want.len() as u64);
-    let count = disk.read(0, &mut into)?;
+    let (count, into) = read_from(disk, 0)?;
     assert_eq!(rt; into.get(..count), Some(want));
     Ok(())
 }
@@ -30,21 +36,37 @@ fn reads_what_was_written(rt: HostRuntime) -> Result<(), Fail> {
     let mut disk = MemDisk::honest(rt.alloc());
     check_content(&rt, &mut disk, b"")?;
     fill(&mut disk)?;
-    assert_eq!(rt; disk.bytes(), b"abXpqr".as_slice());
     check_content(&rt, &mut disk, b"abXpqr")?;
     for (at, count, want) in [
-        (4, 2, "qr."),
-        (2, 3, "Xpq"),
-        (6, 0, "..."),
-        (u64::MAX, 0, "..."),
+        (4, 2, "qr......."),
+        (2, 4, "Xpqr....."),
+        (6, 0, "........."),
+        (u64::MAX, 0, "........."),
     ] {
-        let mut into = [b'.'; 3];
-        assert_eq!(rt; disk.read(at, &mut into)?, count, "at {at}");
+        let (read, into) = read_from(&mut disk, at)?;
+        assert_eq!(rt; read, count, "at {at}");
         assert_eq!(rt; into.as_slice(), want.as_bytes(), "at {at}");
     }
     disk.write_at(8, b"z")?;
     assert_eq!(rt; disk.bytes(), b"abXpqr\0\0z".as_slice());
     Ok(())
+}
+
+/// A disk that was filled, after a crash.
+fn crashed(alloc: Global, image: u8) -> Result<MemDisk, DiskError> {
+    let mut disk = MemDisk::honest(alloc);
+    fill(&mut disk)?;
+    disk.crash(image.min(2));
+    Ok(disk)
+}
+
+/// A disk that was filled and synced, after a crash.
+fn synced_and_crashed(alloc: Global) -> Result<MemDisk, DiskError> {
+    let mut disk = MemDisk::honest(alloc);
+    fill(&mut disk)?;
+    disk.sync()?;
+    disk.crash(0);
+    Ok(disk)
 }
 
 #[test]
@@ -57,9 +79,7 @@ fn a_crash_keeps_none_or_all_or_all_inverted(rt: HostRuntime) -> Result<(), Fail
         (2, inverted.as_slice()),
     ];
     for (image, want) in cases {
-        let mut disk = MemDisk::honest(rt.alloc());
-        fill(&mut disk)?;
-        disk.crash(image);
+        let mut disk = crashed(rt.alloc(), image)?;
         assert_eq!(rt; disk.bytes(), want, "image {image}");
         disk.crash(0);
         assert_eq!(rt;
@@ -68,42 +88,40 @@ fn a_crash_keeps_none_or_all_or_all_inverted(rt: HostRuntime) -> Result<(), Fail
             "nothing is pending after image {image}"
         );
     }
-    let mut disk = MemDisk::honest(rt.alloc());
-    fill(&mut disk)?;
-    disk.sync()?;
-    disk.crash(0);
+    let disk = synced_and_crashed(rt.alloc())?;
     assert_eq!(rt; disk.bytes(), b"abXpqr".as_slice());
     Ok(())
+}
+
+/// Six calls in turn, of which those that fail are counted by the bits of their numbers.
+fn failures<D: Disk>(disk: &mut D) -> u32 {
+    let answers = [
+        disk.write_at(0, b"abcd").is_err(),
+        disk.sync().is_err(),
+        disk.write_at(2, b"XY").is_err(),
+        disk.write_at(3, b"pqr").is_err(),
+        disk.len().is_err(),
+        disk.read(0, &mut [0; 4]).is_err(),
+    ];
+    answers
+        .iter()
+        .rev()
+        .fold(0, |bits: u32, &failed| bits % 64 * 2 + u32::from(failed))
 }
 
 #[test]
 fn planned_calls_of_a_disk_fail(rt: HostRuntime) -> Result<(), Fail> {
     // calls: write, sync, write, write; what is read then, and what a crash that keeps no pending write leaves
     let cases = [
-        (1, "\0\0Xpqr", ""),
-        (2, "abXpqr", ""),
-        (3, "abcpqr", "abcd"),
-        (4, "abXY", "abcd"),
-        (5, "abXpqr", "abcd"),
+        (1, 1, "\0\0Xpqr", ""),
+        (2, 2, "abXpqr", ""),
+        (3, 4, "abcpqr", "abcd"),
+        (4, 8, "abXY", "abcd"),
+        (5, 16, "abXpqr", "abcd"),
     ];
-    for (number, want, settled) in cases {
+    for (number, bits, want, settled) in cases {
         let mut disk = MemDisk::new(rt.alloc(), &[number])?;
-        let answers = [
-            (1, disk.write_at(0, b"abcd")),
-            (2, disk.sync()),
-            (3, disk.write_at(2, b"XY")),
-            (4, disk.write_at(3, b"pqr")),
-            (5, disk.len().map(|_| ())),
-            (6, disk.read(0, &mut [0; 4]).map(|_| ())),
-        ];
-        for (call, answer) in answers {
-            let expected = if call == number {
-                Err(DiskError::Failed)
-            } else {
-                Ok(())
-            };
-            assert_eq!(rt; answer, expected, "call {call} of plan {number}");
-        }
+        assert_eq!(rt; failures(&mut disk), bits, "plan {number}");
         assert_eq!(rt; disk.bytes(), want.as_bytes(), "plan {number}");
         disk.crash(0);
         assert_eq!(rt; disk.bytes(), settled.as_bytes(), "plan {number}");
@@ -111,63 +129,139 @@ fn planned_calls_of_a_disk_fail(rt: HostRuntime) -> Result<(), Fail> {
     Ok(())
 }
 
-#[test]
-fn streams_go_on_after_short_calls(rt: HostRuntime) -> Result<(), Fail> {
-    for (room, count, want) in [(0, 0, "......."), (4, 4, "abcd..."), (7, 5, "abcde..")] {
-        let mut parts = b"ab".as_slice().chain(b"cde".as_slice());
-        let mut into = [b'.'; 7];
-        assert_eq!(rt; read_full(&mut parts, &mut into[..room])?, count);
-        assert_eq!(rt; into.as_slice(), want.as_bytes(), "room for {room}");
+const PATH: &str = "disk_trait_files/journal";
+
+fn disk_over<C: FileCalls + Drop>(
+    calls: C,
+    alloc: Global,
+    path: &str,
+) -> Result<FileDisk<C>, Memory> {
+    Ok(FileDisk::new(calls, Text::copy_of(alloc, path)?))
+}
+
+/// Makes a file, syncs it, writes once more and reads. Answers how many of the six calls went well before one failed.
+fn steps<D: Disk>(disk: &mut D) -> u32 {
+    if disk.len().is_err() {
+        return 0;
     }
-    let mut written = Vec::new(rt.alloc());
-    write_full(&mut written, b"abcde")?;
-    assert_eq!(rt; written.as_slice(), b"abcde".as_slice());
-    // a slice takes as many bytes as it has room for, and then none
-    let mut room = [0; 3];
-    assert_eq!(rt;
-        write_full(&mut room.as_mut_slice(), b"abcde").is_err(),
-        true
-    );
-    assert_eq!(rt; room, *b"abc");
+    if disk.write_at(0, b"abcd").is_err() {
+        return 1;
+    }
+    if disk.sync().is_err() {
+        return 2;
+    }
+    if disk.write_at(2, b"XYZ").is_err() {
+        return 3;
+    }
+    if disk.len().is_err() {
+        return 4;
+    }
+    if disk.read(0, &mut [0; 9]).is_err() {
+        return 5;
+    }
+    6
+}
+
+/// How far the steps come where the call of a number fails, and what the disk says of it.
+fn stopped(alloc: Global, call: u64, error: CallError) -> Result<(u32, Option<ErrorKind>), Memory> {
+    let calls = MemFiles::new(alloc, &[Failing { call, error }], usize::MAX)?;
+    let mut disk = disk_over(calls, alloc, PATH)?;
+    let done = steps(&mut disk);
+    Ok((done, disk.reason()))
+}
+
+#[test]
+fn no_failure_of_a_call_is_swallowed(rt: HostRuntime) -> Result<(), Fail> {
+    // len: open; write: open, make, lock, sync the name, write; sync; write; len; read: twice, to the end
+    let steps_of_calls = [0, 1, 1, 1, 1, 1, 2, 3, 4, 5, 5];
+    let full = CallError::Failed(ErrorKind::StorageFull);
+    for (before, step) in steps_of_calls.iter().enumerate() {
+        let call = before as u64 + 1;
+        let answer = stopped(rt.alloc(), call, full)?;
+        assert_eq!(rt;
+            answer,
+            (*step, Some(ErrorKind::StorageFull)),
+            "call {call}"
+        );
+    }
+    assert_eq!(rt; stopped(rt.alloc(), 12, full)?, (6, None));
+    let memory = stopped(rt.alloc(), 6, CallError::Memory)?;
+    assert_eq!(rt; memory, (1, Some(ErrorKind::OutOfMemory)));
+    let taken = stopped(rt.alloc(), 3, CallError::Taken)?;
+    assert_eq!(rt; taken, (1, Some(ErrorKind::AlreadyExists)));
+    Ok(())
+}
+
+/// The file after the steps, where a read or a write moves one byte, and some of them are interrupted.
+fn stepped(alloc: Global) -> Result<(u32, Option<StoredFile>), Memory> {
+    let error = CallError::Interrupted;
+    let failing = [6, 8, 9, 12, 14].map(|call| Failing { call, error });
+    let mut disk = disk_over(MemFiles::new(alloc, &failing, 1)?, alloc, PATH)?;
+    let done = steps(&mut disk);
+    Ok((done, disk.calls().file(PATH)?))
+}
+
+#[test]
+fn calls_go_on_where_they_were_short_or_interrupted(rt: HostRuntime) -> Result<(), Fail> {
+    let (done, file) = stepped(rt.alloc())?;
+    assert_eq!(rt; done, 6);
+    let file = file.ok_or("no file")?;
+    assert_eq!(rt; file.bytes.as_slice(), b"abXYZ".as_slice());
+    assert_eq!(rt; (file.is_synced, file.is_named), (false, true));
     Ok(())
 }
 
 const FOLDER: &str = "disk_trait_files";
 
-fn file_disk(rt: HostRuntime, alloc: Global, path: &str) -> Result<FileDisk<HostRuntime>, Fail> {
-    Ok(FileDisk::new(rt, Text::copy_of(alloc, path)?))
+/// Whether reading and syncing make a file.
+fn makes_a_file(rt: &HostRuntime, path: &str) -> Result<bool, Fail> {
+    let mut disk = disk_over(RealFiles::new(rt.clone()?), rt.alloc(), path)?;
+    disk.len()?;
+    read_from(&mut disk, 0)?;
+    disk.sync()?;
+    Ok(fs::metadata(rt, path).is_ok())
+}
+
+/// Fills a file, and answers the failure of a second disk over it while the first is there.
+fn filled(rt: &HostRuntime, path: &str) -> Result<Option<ErrorKind>, Fail> {
+    let mut disk = disk_over(RealFiles::new(rt.clone()?), rt.alloc(), path)?;
+    fill(&mut disk)?;
+    disk.sync()?;
+    failure(rt, path)
+}
+
+/// Why a disk over the path can't tell its length.
+fn failure(rt: &HostRuntime, path: &str) -> Result<Option<ErrorKind>, Fail> {
+    let mut disk = disk_over(RealFiles::new(rt.clone()?), rt.alloc(), path)?;
+    let _ = disk.len();
+    Ok(disk.reason())
+}
+
+/// What a disk over the path reads from a place on.
+fn read_at(rt: &HostRuntime, path: &str, at: u64) -> Result<(usize, [u8; 9]), Fail> {
+    let mut disk = disk_over(RealFiles::new(rt.clone()?), rt.alloc(), path)?;
+    Ok(read_from(&mut disk, at)?)
+}
+
+fn mode_of(rt: &HostRuntime, path: &str) -> io::Result<u32> {
+    Ok(fs::metadata(rt, path)?.mode())
 }
 
 #[test]
 fn file_disk_reads_and_writes(rt: HostRuntime) -> Result<(), Fail> {
     let _ = fs::remove_dir_all(&rt, FOLDER);
     fs::create_dir(&rt, FOLDER)?;
-    let path = "disk_trait_files/journal";
-
-    let mut disk = file_disk(rt, rt.alloc(), path)?;
-    check_content(&rt, &mut disk, b"")?;
-    disk.sync()?;
-    assert!(rt; fs::read(&rt, path).is_err(), "reading makes no file");
-    fill(&mut disk)?;
-    disk.sync()?;
-    check_content(&rt, &mut disk, b"abXpqr")?;
-
-    let mut second = file_disk(rt, rt.alloc(), path)?;
-    check_content(&rt, &mut second, b"abXpqr")?;
-    let mut into = [b'.'; 3];
-    assert_eq!(rt; second.read(4, &mut into)?, 2);
-    assert_eq!(rt; into, *b"qr.");
-
-    let mut folder = file_disk(rt, rt.alloc(), FOLDER)?;
-    assert_eq!(rt; folder.len(), Err(DiskError::Failed));
-    assert_eq!(rt; folder.write_at(0, b"a"), Err(DiskError::Failed));
+    assert!(rt; !makes_a_file(&rt, PATH)?);
+    assert_eq!(rt; filled(&rt, PATH)?, Some(ErrorKind::WouldBlock));
+    assert_eq!(rt; mode_of(&rt, PATH)?, 0o100600);
+    assert_eq!(rt; read_at(&rt, PATH, 4)?, (2, *b"qr......."));
+    fs::set_permissions(&rt, PATH, fs::Permissions::from_mode(0o400))?;
+    assert_eq!(rt; read_at(&rt, PATH, 0)?, (6, *b"abXpqr..."));
+    assert_eq!(rt; failure(&rt, FOLDER)?, Some(ErrorKind::InvalidInput));
+    assert_eq!(rt;
+        failure(&rt, "disk_trait_files/journal/a")?,
+        Some(ErrorKind::NotADirectory)
+    );
     fs::remove_dir_all(&rt, FOLDER)?;
     Ok(())
-}
-
-#[test]
-fn a_name_lies_in_its_folder(rt: HostRuntime) {
-    for (path, folder) in [("a", "."), ("/a", "/"), ("b/a", "b"), ("/c/b/a", "/c/b")] {
-        assert_eq!(rt; folder_of(path), folder, "{path}");
-    }
 }

@@ -1,2 +1,4 @@
 pub mod FilesLemmas
+pub mod FolderLemmas
+pub mod ListingLemmas
 pub mod StreamLemmas

@@ -1,40 +1,10 @@
--- What several reads and writes in a row do to bytes that are known.
-use Rattle.std.proofs.Common.{◌≡◌, ◌∙◌, ◌+◌, ◌-◌, ◌≤◌, ℕ, List, [], ◌++◌, Option, Some, None, length, take, refl, sym, ap, append_assoc, append-nil, drop_at, length-take-le, take-add, take-append-drop, drop}
-use Rattle.std.proofs.lemmas.List.{take-append-le, take_at, take_rest}
-use Rattle.std.specs.Io.KnownBytes.{Consumes, Appends, Keeps}
+-- What several reads and writes in a row make of bytes.
+use Rattle.std.proofs.Common.{◌≡◌, ◌∙◌, ◌+◌, ◌≤◌, ◌<◌, ℕ, zero, suc, List, ◌++◌, Option, Some, None, IfSome, IsSomeAnd, length, take, refl, sym, ap, subst, append-nil, drop_at, length-take-le, take-add, drop, arith}
+use Rattle.std.proofs.lemmas.List.{take-append-le, take_at, take-take, drop_all}
+use Rattle.system_calls.specs.Stored.{Paths, SameFiles, ReadsSome, WritesSome, overwritten, written}
+use Rattle.system_calls.specs.declared.stored.StoredFile.{StoredFile}
+use Rattle.mail_trait.specs.Streams.{fresh_with}
 use borrow.Rule.Slice.PartMut.{put_mid, post_of}
-
-pub consumes-on : (a b c : Option (List ℕ)) (xs ys : List ℕ) → Consumes a b xs → Consumes b c ys → Consumes a c (xs ++ ys)
-consumes-on None b c xs ys p q = tt
-consumes-on (Some all) None c xs ys p q = absurd p
-consumes-on (Some all) (Some rest) None xs ys p q = absurd q
-consumes-on (Some all) (Some rest) (Some left) xs ys p q = p ∙ ap (λ l. xs ++ l) q ∙ sym (append_assoc xs ys left)
-
-pub consumes-kept : (a b c : Option (List ℕ)) (xs : List ℕ) → Consumes a b xs → Keeps b c → Consumes a c xs
-consumes-kept None b c xs p q = tt
-consumes-kept (Some all) None c xs p q = absurd p
-consumes-kept (Some all) (Some rest) None xs p q = absurd q
-consumes-kept (Some all) (Some rest) (Some left) xs p q = p ∙ ap (λ l. xs ++ l) (sym q)
-
-pub consumes-none : (a : Option (List ℕ)) → Consumes a a []
-consumes-none None = tt
-consumes-none (Some all) = refl
-
-pub appends-on : (a b c : Option (List ℕ)) (xs ys : List ℕ) → Appends a b xs → Appends b c ys → Appends a c (xs ++ ys)
-appends-on None b c xs ys p q = tt
-appends-on (Some all) None c xs ys p q = absurd p
-appends-on (Some all) (Some more) None xs ys p q = absurd q
-appends-on (Some all) (Some more) (Some most) xs ys p q = q ∙ ap (λ l. l ++ ys) p ∙ append_assoc all xs ys
-
-pub appends-kept : (a b c : Option (List ℕ)) (xs : List ℕ) → Appends a b xs → Keeps b c → Appends a c xs
-appends-kept None b c xs p q = tt
-appends-kept (Some all) None c xs p q = absurd p
-appends-kept (Some all) (Some more) None xs p q = absurd q
-appends-kept (Some all) (Some more) (Some most) xs p q = q ∙ p
-
-pub appends-none : (a : Option (List ℕ)) → Appends a a []
-appends-none None = tt
-appends-none (Some all) = sym (append-nil all)
 
 -- the front of a buffer after a read of n bytes into its part from a on
 pub take-filled : (m a k n : ℕ) (xs ys : List ℕ) → m ≡ a + n → a ≤ length xs → n ≤ length ys →
@@ -53,10 +23,53 @@ pub take-unfilled : (m a k : ℕ) (xs ys : List ℕ) → m ≡ a → a ≤ lengt
 take-unfilled m a k xs ys is within =
     ap (λ l. take l (put_mid a k xs ys)) is ∙ take_at (take a xs) (ys ++ post_of a k xs) a (length-take-le a xs within)
 
--- bytes move from those that are left to those that are done
-pub moved : (all done rest : List ℕ) (n : ℕ) → all ≡ done ++ rest → all ≡ (done ++ take n rest) ++ take (length rest - n) (drop n rest)
-moved all done rest n split =
-    split
-    ∙ ap (λ l. done ++ l) (sym (take-append-drop n rest))
-    ∙ sym (append_assoc done (take n rest) (drop n rest))
-    ∙ ap (λ l. (done ++ take n rest) ++ l) (sym (take_rest rest n))
+-- the front of a list and more of it, from a part that reaches to its end
+pub take-more : (m a n k : ℕ) (xs : List ℕ) → m ≡ a + n → n ≤ k → take m xs ≡ take a xs ++ take n (take k (drop a xs))
+take-more m a n k xs is fits =
+    ap (λ i. take i xs) is ∙ take-add a n xs ∙ ap (λ l. take a xs ++ l) (sym (take-take n k (drop a xs) fits))
+
+-- bytes that are written at the end are appended
+pub overwritten-end : (at : ℕ) (bytes old : List ℕ) → length old ≡ at → overwritten at bytes old ≡ old ++ bytes
+overwritten-end at bytes old end =
+    let beyond : length old ≤ at + length bytes = omega arith in
+    ap (λ l. l ++ bytes ++ drop (at + length bytes) old) (take_at old _ at end)
+    ∙ ap (λ l. old ++ bytes ++ l) (drop_all (at + length bytes) old beyond)
+    ∙ append-nil (old ++ bytes)
+
+-- the next bytes are written to a file that was just made
+pub write_more : (m at n k : ℕ) (bytes : List ℕ) (old new : Option StoredFile) → m ≡ at + n → at ≤ length bytes → n ≤ k →
+    WritesSome at n (take k (drop at bytes)) old new → old ≡ Some (fresh_with (take at bytes)) → new ≡ Some (fresh_with (take m bytes))
+write_more m at zero k bytes old new is within fits writes was =
+    let same : at ≡ m = omega arith in
+    writes.nothing refl ∙ was ∙ ap (λ i. Some (fresh_with (take i bytes))) same
+write_more m at (suc n) k bytes old new is within fits writes was =
+    let part = take (suc n) (take k (drop at bytes)) in
+    let there = subst (λ (o : Option StoredFile). IsSomeAnd o (λ file. 0 < suc n → new ≡ Some (written at part file))) was writes.there in
+    let some : 0 < suc n = omega arith in
+    there some
+    ∙ ap (λ l. Some (fresh_with l)) (overwritten-end at part (take at bytes) (length-take-le at bytes within) ∙ sym (take-more m at (suc n) k bytes is fits))
+
+-- the next bytes of a file are read
+pub read_more : (m at n : ℕ) (content done old new : List ℕ) → m ≡ at + n → done ≡ take at content → ReadsSome content at n old new →
+    done ++ take n new ≡ take m content
+read_more m at n content done old new is front reads =
+    ap (λ l. done ++ take n l) reads.bytes
+    ∙ ap (λ l. done ++ l) (take_at (take n (drop at content)) (drop n old) n (length-take-le n (drop at content) reads.there))
+    ∙ ap (λ l. l ++ take n (drop at content)) front
+    ∙ sym (take-add at n content)
+    ∙ ap (λ i. take i content) (sym is)
+
+-- the same where the file may be missing
+read_found : (stored : Option StoredFile) (items done old new : List ℕ) (m at n : ℕ) → items ≡ done ++ take n new → m ≡ at + n →
+    IfSome stored (λ file. done ≡ take at file.bytes) → IsSomeAnd stored (λ file. ReadsSome file.bytes at n old new) →
+    IfSome stored (λ file. items ≡ take m file.bytes)
+read_found None items done old new m at n grown is front reads = tt
+read_found (Some file) items done old new m at n grown is front reads = grown ∙ read_more m at n file.bytes done old new is front reads
+
+-- and where no path has changed before
+pub read_on : (files before : Paths) (path from : List ℕ) (items done old new : List ℕ) (m at n : ℕ) → from ≡ path → SameFiles files before →
+    items ≡ done ++ take n new → m ≡ at + n → IfSome (files path) (λ file. done ≡ take at file.bytes) →
+    IsSomeAnd (before from) (λ file. ReadsSome file.bytes at n old new) → IfSome (files path) (λ file. items ≡ take m file.bytes)
+read_on files before path from items done old new m at n kept same grown is front reads =
+    read_found (files path) items done old new m at n grown is front
+    (subst (λ (o : Option StoredFile). IsSomeAnd o (λ file. ReadsSome file.bytes at n old new)) (ap before kept ∙ same path) reads)

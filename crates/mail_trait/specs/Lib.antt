@@ -1,4 +1,7 @@
 pub mod Post
+pub mod Failures
+pub mod Streams
+pub mod Folder
 pub mod Sink
 pub mod FileName
 pub mod Files

@@ -22,8 +22,10 @@ calls_made source = source.calls.made
 abbrev pub counts_of : MemEntropy → Counts
 counts_of source = source.calls.counts
 
--- The same calls are to fail, and no seed comes anew. Where no call is to fail and a seed is still to come, none has failed.
+-- The same calls are to fail, and no seed comes anew. Where no call is to fail and a seed is still to come, none has
+-- failed.
 pub record Follows (before now : MemEntropy) : Type 0 where
   pub same : failing_calls now ≡ failing_calls before
   pub fewer : length (seeds_to_come now) ≤ length (seeds_to_come before)
-  pub honest : failing_calls before ≡ [] → 0 < length (seeds_to_come now) → (counts_of now).faults ≡ (counts_of before).faults
+  pub honest : failing_calls before ≡ [] → 0 < length (seeds_to_come now) →
+      (counts_of now).faults ≡ (counts_of before).faults

@@ -3,12 +3,16 @@ use Rattle.std.specs.Prelude.{ℕ, List}
 use Rattle.group_fields.specs.declared.counts.Counts.{Counts}
 use Rattle.group_fields.specs.Plan.{KeepsPlan}
 use Rattle.mail_trait.specs.Files.{files_of}
-use Rattle.mail_trait.specs.Post.{Files}
+use Rattle.mail_trait.specs.Post.{Files, Put}
 use Rattle.mail_trait.specs.declared.mem_post.MemPost.{MemPost}
 
 -- its files
 abbrev pub files_in : MemPost → Files
 files_in post = files_of post.files
+
+-- what was put, in order, failed puts too
+abbrev pub puts_in : MemPost → List Put
+puts_in post = post.puts.items
 
 -- the numbers, from 1, of the calls that are to fail
 abbrev pub failing_calls : MemPost → List ℕ

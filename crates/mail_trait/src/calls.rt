@@ -49,6 +49,13 @@ impl Calls {
         }
     }
 
+    /// How many calls there were, up to the greatest count.
+    pub(crate) fn made(&self) -> u64
+        ensures { result ≡ self.now.made }
+    {
+        self.made
+    }
+
     /// Begins the next call, which fails here where the plan says so.
     pub(crate) fn begin(&mut self) -> Result<(), MailError>
         ensures planned { FailsAsPlanned Failed self.old.failing.items self.old.made self.new.made result }

@@ -1,5 +1,6 @@
 ghost use Rattle.std.specs.Prelude.{◌≡◌, List, ℕ, [], ◌∷◌, ◌++◌, OnOk, OnErr};
 ghost use Rattle.group_fields.specs.Cause.{HasCause};
+ghost use Rattle.group_fields.specs.Plan.{next_call};
 ghost use Rattle.group_fields.specs.declared.counts.Counts.{Counts};
 ghost use Rattle.mail_trait.specs.declared.error.MailError.TheVariants.{Failed, Memory};
 
@@ -13,6 +14,9 @@ pub trait Entropy {
     /// The seeds that it has given, the first one first.
     ghost given: { Self → List (List ℕ) };
 
+    /// How often it was asked, up to the greatest count.
+    ghost asked: { Self → ℕ };
+
     /// How often it has failed, and wanted memory.
     ghost counts: { Self → Counts };
 
@@ -23,11 +27,13 @@ pub trait Entropy {
     fn seed32(&mut self, into: &mut [u8; 32]) -> Result<(), MailError>
         ensures given { told → OnOk result (given self.new ≡ given self.old ++ into.new ∷ []) }
         ensures kept { told → OnErr result (given self.new ≡ given self.old) }
+        ensures asked { told → asked self.new ≡ next_call (asked self.old) }
         ensures cause { HasCause Failed Memory (counts self.old) (counts self.new) result }
         ensures follows { follows self.old self.new };
 
     /// No calls lead from a source to itself, and calls after calls are calls.
     ghost follows_itself: { (source : Self) → follows source source };
 
-    ghost follows_on: { (first second third : Self) → follows first second → follows second third → follows first third };
+    ghost follows_on: { (first second third : Self)
+        → follows first second → follows second third → follows first third };
 }

@@ -1,5 +1,5 @@
 //! The outside but for the disk: the mail folder, the random bytes and the output, each as a trait with a meaning.
-//! With each a form in memory, whose calls fail on demand, and an adapter over the real machine.
+//! With each a form in memory, whose calls fail on demand, and an adapter over single calls of an operating system.
 #![tactic(auto)]
 
 mod calls;
@@ -7,7 +7,9 @@ mod device_entropy;
 mod dir_post;
 mod entropy;
 mod error;
+mod failures;
 mod folder;
+mod folder_list;
 mod listing;
 mod mem_entropy;
 mod mem_files;
@@ -15,6 +17,7 @@ mod mem_post;
 mod mem_sink;
 mod out_sink;
 mod post;
+mod put;
 mod sink;
 mod streams;
 #[cfg(test)]
@@ -30,4 +33,5 @@ pub use mem_post::MemPost;
 pub use mem_sink::MemSink;
 pub use out_sink::OutSink;
 pub use post::Post;
+pub use put::Put;
 pub use sink::Sink;

@@ -33,15 +33,25 @@ impl MemEntropy {
             calls: Calls::new(alloc, failing)?,
         })
     }
+
+    /// How often it was asked, up to the greatest count.
+    pub fn asked(&self) -> u64
+        ensures { result ≡ calls_made self.now }
+    {
+        self.calls.made()
+    }
 }
 
 impl Entropy for MemEntropy {
     ghost use Rattle.mail_trait.specs.Plans.{follows-itself, follows-on};
-    ghost use Rattle.mail_trait.specs.MemEntropy.{seeds_given, seeds_to_come, failing_calls, calls_made, counts_of, Follows};
+    ghost use Rattle.mail_trait.specs.MemEntropy.{seeds_given, seeds_to_come};
+    ghost use Rattle.mail_trait.specs.MemEntropy.{failing_calls, calls_made, counts_of, Follows};
 
     ghost told = { Unit {0} };
 
     ghost given = { seeds_given };
+
+    ghost asked = { calls_made };
 
     ghost counts = { counts_of };
 
@@ -53,8 +63,10 @@ impl Entropy for MemEntropy {
         ensures in_order { OnOk result (seeds_to_come self.old ≡ into.new ∷ seeds_to_come self.new) }
         ensures still_to_come { OnErr result (seeds_to_come self.new ≡ seeds_to_come self.old) }
         ensures number { calls_made self.new ≡ next_call (calls_made self.old) }
-        ensures fails { Contains (failing_calls self.old) (calls_made self.new) ⊎ (seeds_to_come self.old ≡ []) → IsErrOf result Failed }
-        ensures only { IsErrOf result Failed → Contains (failing_calls self.old) (calls_made self.new) ⊎ (seeds_to_come self.old ≡ []) }
+        ensures fails { Contains (failing_calls self.old) (calls_made self.new) ⊎ (seeds_to_come self.old ≡ [])
+            → IsErrOf result Failed }
+        ensures only { IsErrOf result Failed
+            → Contains (failing_calls self.old) (calls_made self.new) ⊎ (seeds_to_come self.old ≡ []) }
         ensures cause { HasCause Failed NoMemory (counts_of self.old) (counts_of self.new) result }
         ensures follows { Follows self.old self.new }
     {

@@ -69,7 +69,8 @@ impl Sink for MemSink {
         ensures written { OnOk result (bytes_in self.new ≡ bytes_in self.old ++ bytes.now) }
         ensures prefix { AppendsPrefix bytes.now (bytes_in self.old) (bytes_in self.new) }
         ensures unchanged { OnErr result (bytes_in self.new ≡ bytes_in self.old) }
-        ensures planned { FailsAsPlanned Failed (failing_calls self.old) (calls_made self.old) (calls_made self.new) result }
+        ensures planned { FailsAsPlanned Failed (failing_calls self.old)
+            (calls_made self.old) (calls_made self.new) result }
         ensures cause { HasCause Failed NoMemory (counts_of self.old) (counts_of self.new) result }
         ensures follows { Follows self.old self.new }
     {

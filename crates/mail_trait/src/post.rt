@@ -1,11 +1,11 @@
-ghost use Rattle.std.specs.Prelude.{◌≡◌, ◌≤◌, List, ℕ, length, take, OnOk, IfOk, IfSome};
+ghost use Rattle.std.specs.Prelude.{◌≡◌, ◌≤◌, ◌⊎◌, List, ℕ, [], ◌∷◌, ◌++◌, length, take, OnOk, OnErr, IfOk, IfSome};
 ghost use Rattle.std.specs.Option.{option_map};
 ghost use Rattle.std.specs.Ordering.{nat_cmp};
 ghost use Rattle.std.specs.Cmp.Lexicographic.{slice_cmp};
 ghost use Rattle.std.specs.FinMap.{FinMap, get, insert};
 ghost use Rattle.group_fields.specs.Cause.{HasCause};
 ghost use Rattle.group_fields.specs.declared.counts.Counts.{Counts};
-ghost use Rattle.mail_trait.specs.Post.{rows_of, SameElsewhere};
+ghost use Rattle.mail_trait.specs.Post.{Put, rows_of, whole_put, failed_put, SameElsewhere};
 ghost use Rattle.mail_trait.specs.declared.error.MailError.TheVariants.{Failed, Memory};
 
 use crate::{Listing, MailError};
@@ -19,6 +19,9 @@ pub trait Post {
     /// The files, from the bytes of a name to the bytes of the file.
     ghost files: { Self → FinMap (slice_cmp nat_cmp) (List ℕ) };
 
+    /// What was put, in order, failed puts too.
+    ghost puts: { Self → List Put };
+
     /// How often it has failed, and wanted memory.
     ghost counts: { Self → Counts };
 
@@ -29,6 +32,7 @@ pub trait Post {
     fn list(&mut self) -> Result<Listing, MailError>
         ensures rows { told → IfOk result (λ rows. rows ≡ rows_of (files self.old)) }
         ensures files { told → files self.new ≡ files self.old }
+        ensures puts { told → puts self.new ≡ puts self.old }
         ensures cause { HasCause Failed Memory (counts self.old) (counts self.new) result }
         ensures follows { follows self.old self.new };
 
@@ -37,18 +41,24 @@ pub trait Post {
         ensures within { IfOk result (λ found. IfSome found (λ bytes. length bytes ≤ limit)) }
         ensures bytes { told → IfOk result (λ found. found ≡ option_map (take limit) (get (files self.old) name.now)) }
         ensures files { told → files self.new ≡ files self.old }
+        ensures puts { told → puts self.new ≡ puts self.old }
         ensures cause { HasCause Failed Memory (counts self.old) (counts self.new) result }
         ensures follows { follows self.old self.new };
 
     /// Puts the bytes under the name, in place of what was there. Where it fails the name may have any bytes, or none.
+    /// A put that failed and left no trace need not be among those that were put.
     fn put(&mut self, name: &str, bytes: &[u8]) -> Result<(), MailError>
         ensures put { told → OnOk result (files self.new ≡ insert (files self.old) name.now bytes.now) }
         ensures others { told → SameElsewhere name.now (files self.old) (files self.new) }
+        ensures seen { told → OnOk result (puts self.new ≡ puts self.old ++ whole_put name.now bytes.now ∷ []) }
+        ensures failed { told → OnErr result ((puts self.new ≡ puts self.old ++ failed_put name.now bytes.now ∷ [])
+            ⊎ ((puts self.new ≡ puts self.old) × (files self.new ≡ files self.old))) }
         ensures cause { HasCause Failed Memory (counts self.old) (counts self.new) result }
         ensures follows { follows self.old self.new };
 
     /// No calls lead from a folder to itself, and calls after calls are calls.
     ghost follows_itself: { (post : Self) → follows post post };
 
-    ghost follows_on: { (first second third : Self) → follows first second → follows second third → follows first third };
+    ghost follows_on: { (first second third : Self)
+        → follows first second → follows second third → follows first third };
 }

@@ -30,5 +30,6 @@ pub trait Sink {
     /// No calls lead from an output to itself, and calls after calls are calls.
     ghost follows_itself: { (sink : Self) → follows sink sink };
 
-    ghost follows_on: { (first second third : Self) → follows first second → follows second third → follows first third };
+    ghost follows_on: { (first second third : Self)
+        → follows first second → follows second third → follows first third };
 }

@@ -1,93 +1,122 @@
-ghost use Rattle.std.specs.Prelude.{◌≡◌, ◌≤◌, IfOk, IfSome, OnOk, take, vec_len};
-ghost use Rattle.std.specs.Io.KnownBytes.{Consumes, Appends};
-ghost use Rattle.group_fields.specs.Cause.{HasCause};
-ghost use Rattle.mail_trait.specs.declared.error.MailError.TheVariants.{Failed, Memory};
+ghost use Rattle.std.specs.Prelude.{◌≡◌, ◌≤◌, ◌++◌, Some, false, vec_len, take, IfOk, OnOk, IsSomeAnd};
+ghost use Rattle.group_fields.specs.Plan.{next_call};
+ghost use Rattle.system_calls.specs.Stored.{SameFiles, SameElsewhere, fresh_file};
+ghost use Rattle.mail_trait.specs.Failures.{EndsAs};
+ghost use Rattle.mail_trait.specs.Sink.{AppendsPrefix};
+ghost use Rattle.mail_trait.specs.Streams.{Ended, fresh_with};
 
-use crate::MailError;
-use group_fields::Counts;
 use std::alloc::Global;
-use std::io::{ErrorKind, Read, Write};
+use std::io::ErrorKind;
+use system_calls::{CallError, FileCalls, OutputCalls, RandomCalls};
 
 /// How many bytes one read asks for at most.
 const BLOCK: usize = 8192;
 
-/// The answer of a call as it stands, after its failure has been counted.
-pub(crate) fn counted<T>(counts: &mut Counts, outcome: Result<T, MailError>) -> Result<T, MailError>
-    ensures same { result ≡ outcome }
-    ensures cause { HasCause Failed Memory counts.old counts.new result }
+/// Fills the whole buffer from one opening of the device. It is a fault where the device ends before.
+pub(crate) fn fill<C: RandomCalls>(calls: &mut C, into: &mut [u8]) -> Result<(), CallError>
+    ensures bytes { C.told → OnOk result (C.to_come calls.old ≡ into.new ++ C.to_come calls.new) }
+    ensures opened { C.told → C.openings calls.new ≡ next_call (C.openings calls.old) }
+    ensures ends { EndsAs (Ended C.told (C.to_come calls.new)) (C.failures calls.old) (C.failures calls.new)
+        (C.last_failure calls.new) result }
 {
-    match outcome {
-        Ok(value) => Ok(value),
-        Err(MailError::Failed) => {
-            counts.add_fault();
-            Err(MailError::Failed)
-        }
-        Err(MailError::Memory) => {
-            counts.add_want();
-            Err(MailError::Memory)
-        }
-    }
+    let mut device = calls.open()?;
+    fill_from(calls, &mut device, into)
 }
 
-/// Reads to the end, or until there are `limit` bytes.
-pub(crate) fn read_at_most<R: Read>(
-    alloc: Global,
-    reader: &mut R,
-    limit: u32,
-) -> Result<Vec<u8>, MailError>
-    ensures within { IfOk result (λ bytes. vec_len bytes ≤ limit) }
-
-    // of a reader that tells what it has left
-    ensures bytes { IfOk result (λ bytes. IfSome (R.remaining reader.old) (λ all. bytes.items ≡ take limit all)) }
-{
-    let mut bytes = Vec::new(alloc);
-    let mut block = [0; BLOCK];
-    for _ in 0..u64::MAX {
-        let room = BLOCK.min(limit as usize - bytes.len());
-        match reader.read(&mut block[..room]) {
-            Ok(0) => return Ok(bytes),
-            Ok(count) => bytes.extend_from_slice(&block[..count])?,
-            Err(error) if error.kind() == ErrorKind::Interrupted => {}
-            Err(error) => return Err(MailError::from(error)),
-        }
-    }
-    Err(MailError::Failed)
-}
-
-/// Fills the whole buffer. It is a fault where the reader ends before.
-pub(crate) fn fill<R: Read>(reader: &mut R, into: &mut [u8]) -> Result<(), MailError>
-    ensures { OnOk result (Consumes (R.remaining reader.old) (R.remaining reader.new) into.new) }
+fn fill_from<C: RandomCalls>(
+    calls: &mut C,
+    device: &mut C::Device,
+    into: &mut [u8],
+) -> Result<(), CallError>
+    ensures bytes { C.told → OnOk result (C.to_come calls.old ≡ into.new ++ C.to_come calls.new) }
+    ensures opened { C.told → C.openings calls.new ≡ C.openings calls.old }
+    ensures ends { EndsAs (Ended C.told (C.to_come calls.new)) (C.failures calls.old) (C.failures calls.new)
+        (C.last_failure calls.new) result }
 {
     let mut filled = 0;
     for _ in 0..u64::MAX {
         if filled == into.len() {
             return Ok(());
         }
-        match reader.read(&mut into[filled..]) {
-            Ok(0) => return Err(MailError::Failed),
+        match calls.read(device, &mut into[filled..]) {
+            Ok(0) => return Err(CallError::Failed(ErrorKind::UnexpectedEof)),
             Ok(count) => filled += count,
-            Err(error) if error.kind() == ErrorKind::Interrupted => {}
-            Err(error) => return Err(MailError::from(error)),
+            Err(CallError::Interrupted) => {}
+            Err(error) => return Err(error),
         }
     }
-    Err(MailError::Failed)
+    Err(CallError::Interrupted)
 }
 
-/// Writes all the bytes. It is a fault where the writer takes none.
-pub(crate) fn write_out<W: Write>(writer: &mut W, bytes: &[u8]) -> Result<(), MailError>
-    ensures { OnOk result (Appends (W.contents writer.old) (W.contents writer.new) bytes.now) }
+/// Writes all the bytes.
+pub(crate) fn write_out<C: OutputCalls>(calls: &mut C, bytes: &[u8]) -> Result<(), CallError>
+    ensures written { C.told → OnOk result (C.written calls.new ≡ C.written calls.old ++ bytes.now) }
+    ensures prefix { C.told → AppendsPrefix bytes.now (C.written calls.old) (C.written calls.new) }
+    ensures ends { EndsAs (λ _. ⊥) (C.failures calls.old) (C.failures calls.new) (C.last_failure calls.new) result }
 {
-    let mut rest = bytes;
+    let mut count = 0;
     for _ in 0..u64::MAX {
-        if rest.is_empty() {
+        if count == bytes.len() {
             return Ok(());
         }
-        match writer.write(rest) {
-            Ok(0) => return Err(MailError::Failed),
-            Ok(count) => rest = &rest[count..],
-            Err(error) if error.kind() == ErrorKind::Interrupted => {}
-            Err(error) => return Err(MailError::from(error)),
+        match calls.write(&bytes[count..]) {
+            Ok(more) => count += more,
+            Err(CallError::Interrupted) => {}
+            Err(error) => return Err(error),
         }
     }
-    Err(MailError::Failed)
+    Err(CallError::Interrupted)
+}
+
+/// Reads from the start of a file to its end, or until there are `limit` bytes.
+pub(crate) fn read_at_most<C: FileCalls>(
+    calls: &mut C,
+    alloc: Global,
+    file: &mut C::File,
+    limit: u32,
+) -> Result<Vec<u8>, CallError>
+    ensures within { IfOk result (λ bytes. vec_len bytes ≤ limit) }
+    ensures bytes { C.told → IfOk result (λ bytes. IsSomeAnd (C.file_at calls.old (C.path_of file.old))
+        (λ stored. bytes.items ≡ take limit stored.bytes)) }
+    ensures files { C.told → SameFiles (C.file_at calls.old) (C.file_at calls.new) }
+    ensures calm { OnOk result (C.failures calls.new ≡ C.failures calls.old) }
+{
+    let mut bytes = Vec::new(alloc);
+    let mut block = [0; BLOCK];
+    for _ in 0..u64::MAX {
+        let room = BLOCK.min(limit as usize - bytes.len());
+        match calls.read_at(file, bytes.len() as u64, &mut block[..room]) {
+            Ok(0) => return Ok(bytes),
+            Ok(count) => bytes.extend_from_slice(&block[..count])?,
+            Err(CallError::Interrupted) => {}
+            Err(error) => return Err(error),
+        }
+    }
+    Err(CallError::Interrupted)
+}
+
+/// Writes all the bytes into a file that was just made.
+pub(crate) fn write_new<C: FileCalls>(
+    calls: &mut C,
+    file: &mut C::File,
+    bytes: &[u8],
+) -> Result<(), CallError>
+    ensures written { C.told → C.file_at calls.old (C.path_of file.old) ≡ Some (fresh_file false)
+        → OnOk result (C.file_at calls.new (C.path_of file.old) ≡ Some (fresh_with bytes.now)) }
+    ensures others { C.told → SameElsewhere (C.path_of file.old) (C.file_at calls.old) (C.file_at calls.new) }
+    ensures path { C.path_of file.new ≡ C.path_of file.old }
+    ensures calm { OnOk result (C.failures calls.new ≡ C.failures calls.old) }
+{
+    let mut count = 0;
+    for _ in 0..u64::MAX {
+        if count == bytes.len() {
+            return Ok(());
+        }
+        match calls.write_at(file, count as u64, &bytes[count..]) {
+            Ok(more) => count += more,
+            Err(CallError::Interrupted) => {}
+            Err(error) => return Err(error),
+        }
+    }
+    Err(CallError::Interrupted)
 }

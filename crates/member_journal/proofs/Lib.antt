@@ -1,7 +1,9 @@
+pub mod Appends
 pub mod Calls
 pub mod Entries
 pub mod Fronts
 pub mod Heads
+pub mod Journals
 pub mod Recalls
 pub mod Runs
 pub mod Stages

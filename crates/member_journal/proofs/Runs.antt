@@ -1,19 +1,21 @@
 -- Runs that only read a disk, one after another.
 use Rattle.std.proofs.Common.{ℕ, List, Result, Ok, Err, OnOk}
+use Rattle.disk_trait.specs.declared.disk.Disk.{Ghosts}
 use Rattle.disk_trait.specs.Moments.{only_reads_none, only_reads_on}
 use Rattle.member_journal.specs.Scan.{KeepsDisk}
 
-module _ {D : Type 0} (told : Type 0) (content : D → List ℕ) (image : D → List ℕ → Type 0) (clock : D → ℕ) (image_since : D → ℕ → List ℕ → Type 0) (follows : D → D → Type 0) where
-  pub keeps_none : (disk : D) → ((c : List ℕ) → told → image_since disk (clock disk) c → image disk c) → follows disk disk → KeepsDisk told content image clock image_since follows disk disk
+module _ {D : Type 0} (disks : Ghosts D) where
+  pub keeps_none : (disk : D) → ((c : List ℕ) → disks.told → disks.image_since disk (disks.clock disk) c → disks.image disk c)
+      → disks.follows disk disk → KeepsDisk disks disk disk
   keeps_none disk only_now itself = record {
-    reads = λ known. only_reads_none content image clock image_since disk (λ c since. only_now c known since);
+    reads = λ told. only_reads_none disks disk (λ c since. only_now c told since);
     comes_of = itself;
   }
 
-  pub keeps_on : (first second third : D) → (follows first second → follows second third → follows first third) → KeepsDisk told content image clock image_since follows first second
-      → KeepsDisk told content image clock image_since follows second third → KeepsDisk told content image clock image_since follows first third
+  pub keeps_on : (first second third : D) → (disks.follows first second → disks.follows second third → disks.follows first third)
+      → KeepsDisk disks first second → KeepsDisk disks second third → KeepsDisk disks first third
   keeps_on first second third on early late = record {
-    reads = λ known. only_reads_on content image clock image_since first second third (early.reads known) (late.reads known);
+    reads = λ told. only_reads_on disks first second third (early.reads told) (late.reads told);
     comes_of = on early.comes_of late.comes_of;
   }
 

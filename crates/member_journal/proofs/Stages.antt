@@ -5,11 +5,11 @@ use Rattle.std.proofs.lemmas.List.{take_all, take_at, drop_at, drop-drop, length
 use Rattle.std.proofs.lemmas.Nat.{from_be_bytes-to_be_bytes_4}
 use Rattle.std.specs.Int.{to_be_bytes, w32}
 use Rattle.disk_trait.specs.Disk.{Torn, Wrote}
-use Rattle.member_journal.specs.Append.{framed}
+use Rattle.member_journal.specs.Append.{framed, header}
 use Rattle.member_journal.specs.declared.room.Room.{Room}
-use Rattle.member_journal.specs.Format.{magic, most_records, longest_record, Entry, length_of, HoldsRecord, journal_of}
+use Rattle.member_journal.specs.Format.{most_records, longest_record, Entry, length_of, HoldsRecord, journal_of}
 use Rattle.member_journal.specs.Front.{Front, Begun, Holds, entry_at, entries_at}
-use Rattle.member_journal.specs.Entries.{StandsFor, IsBeforeOrAfter}
+use Rattle.member_journal.specs.Entries.{IsBeforeOrAfter}
 use Rattle.member_journal.proofs.Entries.{empty_journal}
 use Rattle.member_journal.proofs.Fronts.{front_shut, front_same, front_more, front_begin, same_at, get_or-drop_first, first_of_one, entries_at-push}
 use Rattle.member_journal.proofs.Writes.{front_kept}
@@ -178,14 +178,7 @@ begun_after content after now rooms rooms' gate gate' payload few some fewer far
     )
 
 -- on a bare disk
-pub bare_torn : (content c : List ℕ) (rooms : List Room) → length content ≤ 9 → rooms ≡ [] → Torn 0 9 content c → StandsFor (entries_at content rooms) c
-bare_torn content c rooms short none torn =
-    empty_journal c (omega (arith, short, torn.no_longer)) ∙ ap (λ (rs : List Room). Ok (entries_at content rs)) (sym none)
-
-abbrev pub header : List ℕ
-header = magic ++ 0 ∷ []
-
-header_begun : (rooms : List Room) (gate : ℕ) → rooms ≡ [] → gate ≡ 8 → Begun header rooms gate
+pub header_begun : (rooms : List Room) (gate : ℕ) → rooms ≡ [] → gate ≡ 8 → Begun header rooms gate
 header_begun rooms gate none is = record {
   far = omega (arith, is);
   within = omega (arith, is);
@@ -195,15 +188,11 @@ header_begun rooms gate none is = record {
   none = λ short. none;
 }
 
-header_is : (content now : List ℕ) → length content ≤ 9 → Wrote 0 header content now → now ≡ header
+pub header_is : (content now : List ℕ) → length content ≤ 9 → Wrote 0 header content now → now ≡ header
 header_is content now short written =
     let long : 9 ≤ length now = omega (arith, ap length written.there, length-take 9 now) in
     let exact : length now ≤ 9 = omega (arith, short, written.elsewhere.no_longer) in
     sym (take_all 9 now exact) ∙ written.there
-
-pub bare_begun : (content now : List ℕ) (rooms : List Room) (gate : ℕ) → length content ≤ 9 → rooms ≡ [] → gate ≡ 8 → Wrote 0 header content now → Begun now rooms gate
-bare_begun content now rooms gate short none is written =
-    subst (λ (bytes : List ℕ). Begun bytes rooms gate) (sym (header_is content now short written)) (header_begun rooms gate none is)
 
 pub bare_entries : (content now : List ℕ) (rooms : List Room) → rooms ≡ [] → entries_at now rooms ≡ entries_at content rooms
 bare_entries content now rooms none = ap (entries_at now) none ∙ ap (entries_at content) (sym none)

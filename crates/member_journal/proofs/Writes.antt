@@ -1,5 +1,5 @@
 -- Writes one behind the other are one write.
-use Rattle.std.proofs.Common.{◌≡◌, ℕ, ◌+◌, ◌-◌, ◌≤◌, min, List, ◌++◌, length, take, drop, refl, sym, ◌∙◌, ap, subst, arith, length-append, length-drop, take-append-drop}
+use Rattle.std.proofs.Common.{◌≡◌, ℕ, ◌+◌, ◌-◌, ◌≤◌, min, List, ◌++◌, length, take, drop, refl, sym, ◌∙◌, ap, subst, arith, append_assoc, length-append, length-drop, take-append-drop}
 use Rattle.std.proofs.lemmas.List.{take-take, take_min, drop-drop, length-take, drop-take}
 use Rattle.disk_trait.specs.Disk.{Torn, Wrote, MayTear, LeavesOnly}
 
@@ -75,3 +75,17 @@ all_torn_on at n m content image image' inside torn tears c now =
 
 pub all_torn_wider : (at n m : ℕ) (content : List ℕ) (image : List ℕ → Type 0) → n ≤ m → AllTorn at n content image → AllTorn at m content image
 all_torn_wider at n m content image wider torn c now = torn_wider at n m content c wider (torn c now)
+
+-- what stands from the place on
+pub wrote_behind : (at : ℕ) (bytes old new : List ℕ) → Wrote at bytes old new → drop at new ≡ bytes ++ drop (at + length bytes) old
+wrote_behind at bytes old new wrote =
+    let rest : drop (length bytes) (drop at new) ≡ drop (at + length bytes) old = drop-drop (length bytes) at new ∙ wrote.elsewhere.behind in
+    sym (take-append-drop (length bytes) (drop at new)) ∙ (λ i. wrote.there i ++ rest i)
+
+-- a write inside the old length says what all the bytes are
+pub wrote_is : (at : ℕ) (bytes old new : List ℕ) → at ≤ length old → Wrote at bytes old new
+    → new ≡ take at old ++ bytes ++ drop (at + length bytes) old
+wrote_is at bytes old new inside wrote =
+    let front : take at new ≡ take at old = front_kept at (length bytes) at old new wrote.elsewhere inside (omega arith) in
+    let back = wrote_behind at bytes old new wrote in
+    sym (take-append-drop at new) ∙ (λ i. front i ++ back i) ∙ sym (append_assoc (take at old) bytes (drop (at + length bytes) old))

@@ -1,5 +1,6 @@
 -- What the bytes of a journal stand for: the records behind open gates.
-use Rattle.std.specs.Prelude.{ℕ, zero, suc, ◌+◌, ◌<◌, ◌≤◌, Bool, ◌&&◌, ◌==◌, nat_eq, nat_lt, nat_le, if◌then◌else◌, List, [], ◌∷◌, length, take, drop, Result, Ok, Err}
+use Rattle.std.specs.Prelude.{ℕ, zero, suc, ◌+◌, ◌<◌, ◌≤◌, Bool, ◌&&◌, ◌==◌, nat_eq, nat_lt, nat_le, if◌then◌else◌}
+use Rattle.std.specs.Prelude.{List, [], ◌∷◌, length, take, drop, Result, Ok, Err}
 use Rattle.std.specs.Int.{from_be_bytes, w32}
 use Rattle.std.specs.List.{starts_with}
 
@@ -39,9 +40,9 @@ abbrev pub with_entry : Entry → Result (List Entry) ℕ → Result (List Entry
 with_entry entry (Ok entries) = Ok (entry ∷ entries)
 with_entry entry (Err place) = Err place
 
--- The records from a gate at a place on, of which there may be so many. A gate is open exactly where it holds 1. Where it
--- is not, whatever stands behind it is not there. Where it is, and no record stands behind it, the bytes are no journal
--- at the place behind the gate.
+-- The records from a gate at a place on, of which there may be so many. A gate is open exactly where it holds 1. Where
+-- it is not, whatever stands behind it is not there. Where it is, and no record stands behind it, the bytes are no
+-- journal at the place behind the gate.
 unfoldable pub entries_from : ℕ → ℕ → List ℕ → Result (List Entry) ℕ
 entries_from left place [] = Ok []
 entries_from zero place (gate ∷ bytes) = if gate == 1 then Err (place + 1) else Ok []
@@ -53,8 +54,8 @@ entries_from (suc left) place (gate ∷ bytes) =
     else Err (place + 1))
     else Ok []
 
--- The records of a journal, or the place where the bytes are none. At most 9 bytes are an empty journal, whatever they are;
--- more of them begin with the magic, and the first gate stands behind it.
+-- The records of a journal, or the place where the bytes are none. At most 9 bytes are an empty journal, whatever they
+-- are; more of them begin with the magic, and the first gate stands behind it.
 unfoldable pub journal_of : List ℕ → Result (List Entry) ℕ
 journal_of bytes =
     if nat_le (length bytes) 9

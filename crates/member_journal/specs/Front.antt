@@ -1,5 +1,6 @@
 -- What an open journal knows of the bytes before its last gate.
-use Rattle.std.specs.Prelude.{◌≡◌, ◌≢◌, ℕ, ◌+◌, ◌-◌, ◌<◌, ◌≤◌, Bool, true, false, List, [], ◌∷◌, length, take, drop, slice_index, map, Result}
+use Rattle.std.specs.Prelude.{◌≡◌, ◌≢◌, ℕ, ◌+◌, ◌-◌, ◌<◌, ◌≤◌, Bool, true, false}
+use Rattle.std.specs.Prelude.{List, [], ◌∷◌, length, take, drop, slice_index, map, Result}
 use Rattle.disk_trait.specs.Disk.{LeavesOnly}
 use Rattle.member_journal.specs.Format.{Entry, entries_from, journal_of, with_entry, most_records}
 use Rattle.member_journal.specs.declared.room.Room.{Room}
@@ -15,7 +16,8 @@ abbrev pub with_entries : List Entry → Result (List Entry) ℕ → Result (Lis
 with_entries [] result = result
 with_entries (entry ∷ entries) result = with_entry entry (with_entries entries result)
 
--- Bytes with the same front before a gate begin with these records, and go on from there, where as many more may follow.
+-- Bytes with the same front before a gate begin with these records, and go on from there, where so many more may
+-- follow.
 abbrev pub Front : List Entry → ℕ → ℕ → List ℕ → Type 0
 Front entries left gate content =
     (c : List ℕ) → gate < length c → 9 < length c → take gate c ≡ take gate content
@@ -31,7 +33,9 @@ pub record Begun (content : List ℕ) (rooms : List Room) (gate : ℕ) : Type 0 
   pub none : length content ≤ 9 → rooms ≡ []
 
 -- the disk has settled and holds these records; where it is bare it has no gate yet
-pub record Holds (content : List ℕ) (image : List ℕ → Type 0) (rooms : List Room) (gate : ℕ) (is_bare : Bool) : Type 0 where
+pub record Holds (content : List ℕ) (image : List ℕ → Type 0) (rooms : List Room) (gate : ℕ) (is_bare : Bool)
+    : Type 0 where
   pub settled : LeavesOnly content image
   pub bare : is_bare ≡ true → (length content ≤ 9) × (rooms ≡ []) × (gate ≡ 8)
   pub begun : is_bare ≡ false → Begun content rooms gate
+  pub long : is_bare ≡ false → 9 < length content

@@ -1,4 +1,5 @@
-ghost use Rattle.std.specs.Prelude.{◌≡◌, ◌+◌, ◌*◌, ◌<◌, ◌≤◌, ◌↔◌, true, false, [], ◌∷◌, ◌++◌, length, map, All, IfOk, IsTrue, vec_len, vec_capacity};
+ghost use Rattle.std.specs.Prelude.{◌≡◌, ◌+◌, ◌*◌, ◌<◌, ◌≤◌, ◌↔◌, true, false, [], ◌∷◌, ◌++◌, length, map, All};
+ghost use Rattle.std.specs.Prelude.{IfOk, IsTrue, vec_len, vec_capacity};
 ghost use Rattle.member_journal.specs.Format.{most_records, longest_record};
 ghost use Rattle.member_journal.specs.Room.{FitsBefore, longest_room};
 
@@ -8,8 +9,8 @@ use std::alloc::{AllocError, Global};
 /// The most records of a journal.
 const MOST_RECORDS: usize = 16_384;
 
-/// Where the records of a journal lie, and where its last gate stands. A bare disk has no gate yet: its first is to stand
-/// behind the magic.
+/// Where the records of a journal lie, and where its last gate stands. A bare disk has no gate yet: its first is to
+/// stand behind the magic.
 #[derive(Debug, Drop)]
 pub(crate) struct Layout {
     pub(crate) rooms: Vec<Room>,
@@ -55,7 +56,8 @@ impl Layout {
         requires few { vec_len self.old.rooms < most_records }
         requires not_empty { 1 ≤ length }
         requires not_long { length ≤ longest_record }
-        ensures rooms { self.new.rooms.items ≡ self.old.rooms.items ++ record { place = self.old.gate + 1; length = length } ∷ [] }
+        ensures rooms { self.new.rooms.items
+            ≡ self.old.rooms.items ++ record { place = self.old.gate + 1; length = length } ∷ [] }
         ensures gate { self.new.gate ≡ self.old.gate + 5 + length }
         ensures is_bare { self.new.is_bare ≡ self.old.is_bare }
     {

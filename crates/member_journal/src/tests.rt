@@ -1,5 +1,3 @@
-ghost use Rattle.std.specs.Prelude.{◌≤◌};
-
 use super::*;
 use disk_trait::{Disk, DiskError, MemDisk};
 use std::alloc::Global;
@@ -12,19 +10,6 @@ fn disk_with(alloc: Global, bytes: &[u8]) -> Result<MemDisk, DiskError> {
     disk.write_at(0, bytes)?;
     disk.sync()?;
     Ok(disk)
-}
-
-/// Adds a record.
-fn add(
-    rt: &impl Abort,
-    journal: Journal<MemDisk>,
-    record: &[u8],
-) -> Result<Journal<MemDisk>, (MemDisk, JournalFault)> {
-    let count = journal.count();
-    assert!(rt; count < 16_384);
-    let length = record.len();
-    assert!(rt; 1 <= length && length <= 8_388_641);
-    journal.append(record)
 }
 
 /// Each record behind the place of its length field.
@@ -55,135 +40,147 @@ fn shown(alloc: Global, bytes: &[u8]) -> Result<String, Fail> {
     }
 }
 
+/// The bytes of journals and what they show, one a line, with ^ for the line feed of the magic.
+const JOURNALS: &str = concat!(
+    "|\n",
+    "~~~~~~~~~|\n",
+    "DCGKAJ1^\0|\n",
+    "DCGKAJ1^\x01\0\0\0\x02ab\0|9:ab;\n",
+    "DCGKAJ1^\x01\0\0\0\x02ab\x01\0\0\0\x01c\0|9:ab;16:c;\n",
+    // what stands behind a gate that is shut, or holds anything but 1
+    "DCGKAJ1^\x01\0\0\0\x02ab\0~~~|9:ab;\n",
+    "DCGKAJ1^\x02\0\0\0\x02ab\0|\n",
+    // no magic; no length, half of one, the length 0, one past the end, and no gate behind the record
+    "~~~~~~~~~~~~|the bytes are no journal at place 0\n",
+    "DCGKAJ1^\x01\0\0|the bytes are no journal at place 9\n",
+    "DCGKAJ1^\x01\0\0\0\0\0|the bytes are no journal at place 9\n",
+    "DCGKAJ1^\x01\0\0\0\x04ab\0|the bytes are no journal at place 9\n",
+    "DCGKAJ1^\x01\0\0\0\x03ab\0|the bytes are no journal at place 9\n",
+    "DCGKAJ1^\x01\0\0\0\x02ab\x01|the bytes are no journal at place 16\n",
+    "DCGKAJ1^\x01\0\0\0\x02ab\x01\0\0\0\0\0|the bytes are no journal at place 16\n",
+);
+
+fn check_journal(rt: &impl Abort, alloc: Global, line: &str) -> Result<(), Fail> {
+    let (text, want) = line.split_once('|').ok_or("a line has two parts")?;
+    let mut bytes = Vec::new(alloc);
+    for byte in text.bytes() {
+        bytes.push(if byte == b'^' { b'\n' } else { byte })?;
+    }
+    assert_eq!(rt; shown(alloc, bytes.as_slice())?.as_str(), want);
+    Ok(())
+}
+
+fn check_journals(rt: &impl Abort, alloc: Global) -> Result<(), Fail> {
+    for line in JOURNALS.lines() {
+        check_journal(rt, alloc, line)?;
+    }
+    Ok(())
+}
+
 #[test]
 fn reads_what_the_bytes_stand_for(rt: HostRuntime) -> Result<(), Fail> {
-    let cases = [
-        (b"".as_slice(), ""),
-        (b"\xff\xff\xff\xff\xff\xff\xff\xff\xff".as_slice(), ""),
-        (b"DCGKAJ1\n\0".as_slice(), ""),
-        (b"DCGKAJ1\n\x01\0\0\0\x02ab\0".as_slice(), "9:ab;"),
-        (
-            b"DCGKAJ1\n\x01\0\0\0\x02ab\x01\0\0\0\x01c\0".as_slice(),
-            "9:ab;16:c;",
-        ),
-        // what stands behind a gate that is shut, or holds anything but 1
-        (
-            b"DCGKAJ1\n\x01\0\0\0\x02ab\0\xff\xff\xff".as_slice(),
-            "9:ab;",
-        ),
-        (b"DCGKAJ1\n\x02\0\0\0\x02ab\0".as_slice(), ""),
-    ];
-    for (bytes, want) in cases {
-        assert_eq!(rt; shown(rt.alloc(), bytes)?.as_str(), want);
-    }
-    Ok(())
-}
-
-#[test]
-fn names_the_place_of_what_is_no_journal(rt: HostRuntime) -> Result<(), Fail> {
-    let cases = [
-        (
-            b"\xff\xff\xff\xff\xff\xff\xff\xff\xff\xff\xff\xff".as_slice(),
-            0,
-        ),
-        // no length, half of one, the length 0, one too many, past the end, and no gate behind the record
-        (b"DCGKAJ1\n\x01\0\0".as_slice(), 9),
-        (b"DCGKAJ1\n\x01\0\0\0\0\0".as_slice(), 9),
-        (b"DCGKAJ1\n\x01\0\x80\0\x22ab\0".as_slice(), 9),
-        (b"DCGKAJ1\n\x01\0\0\0\x04ab\0".as_slice(), 9),
-        (b"DCGKAJ1\n\x01\0\0\0\x03ab\0".as_slice(), 9),
-        (b"DCGKAJ1\n\x01\0\0\0\x02ab\x01".as_slice(), 16),
-        (b"DCGKAJ1\n\x01\0\0\0\x02ab\x01\0\0\0\0\0".as_slice(), 16),
-    ];
-    for (bytes, place) in cases {
-        let want = format!(in rt.alloc(); "the bytes are no journal at place {place}")?;
-        assert_eq!(rt; shown(rt.alloc(), bytes)?.as_str(), want.as_str());
-    }
-    Ok(())
-}
-
-#[test]
-fn writes_the_first_record(rt: HostRuntime) -> Result<(), Fail> {
-    let mut record = [0; 67];
-    record[..3].copy_from_slice(&[1, 1, 10]);
-    let journal = Journal::open(rt.alloc(), MemDisk::honest(rt.alloc()))?;
-    let mut disk = add(&rt, journal, &record)?.close();
-    disk.crash(0);
-    let mut want = [0; 81];
-    want[..16].copy_from_slice(b"DCGKAJ1\n\x01\0\0\0\x43\x01\x01\x0a");
-    assert_eq!(rt; disk.bytes(), want.as_slice());
-    Ok(())
+    check_journals(&rt, rt.alloc())
 }
 
 /// The numbers of all calls that opening an empty journal and adding two records makes.
 const CALLS: [u32; 16] = [1, 2, 3, 4, 5, 6, 7, 8, 9, 10, 11, 12, 13, 14, 15, 16];
+
+/// Adds a record.
+fn add(
+    rt: &impl Abort,
+    journal: Journal<MemDisk>,
+    record: &[u8],
+) -> Result<Journal<MemDisk>, (MemDisk, JournalFault)> {
+    let count = journal.count();
+    assert!(rt; count < 16_384);
+    let length = record.len();
+    assert!(rt; 1 <= length && length <= 8_388_641);
+    journal.append(record)
+}
 
 /// Opens an empty journal and adds two records, up to the first fault.
 fn add_two(
     rt: &impl Abort,
     alloc: Global,
     disk: MemDisk,
-) -> Result<Journal<MemDisk>, (MemDisk, JournalFault)> {
+) -> Result<MemDisk, (MemDisk, JournalFault)> {
     let journal = Journal::open(alloc, disk)?;
     let journal = add(rt, journal, b"ab")?;
-    add(rt, journal, b"c")
+    Ok(add(rt, journal, b"c")?.close())
 }
 
-/// What a crash leaves where the calls fail after so many.
-fn left_after_crash(
-    rt: &impl Abort,
-    alloc: Global,
-    honest: usize,
-    image: u8,
-) -> Result<String, Fail>
-    requires { image ≤ 2 }
-{
+/// The disk after the calls that succeed before all others fail, and after a crash.
+fn crashed(rt: &impl Abort, alloc: Global, honest: usize, image: u8) -> Result<MemDisk, Fail> {
     let failing = CALLS.get(honest..).unwrap_or(&[]);
     let mut disk = match add_two(rt, alloc, MemDisk::new(alloc, failing)?) {
-        Ok(journal) => {
+        Ok(disk) => {
             assert_eq!(rt; honest, CALLS.len());
-            journal.close()
+            disk
         }
         Err((disk, fault)) => {
             assert_eq!(rt; fault, JournalFault::Disk);
             disk
         }
     };
-    disk.crash(image);
-    shown(alloc, disk.bytes())
+    disk.crash(image.min(2));
+    Ok(disk)
 }
 
-#[test]
-fn a_crash_leaves_the_old_records_or_one_more(rt: HostRuntime) -> Result<(), Fail> {
-    // calls that succeed, from and to, and what stands then with no pending write, with all, and with all inverted
-    let cases = [
-        (0, 8, ["", "", ""]),
-        (9, 9, ["", "9:ab;", ""]),
-        (10, 14, ["9:ab;", "9:ab;", "9:ab;"]),
-        (15, 15, ["9:ab;", "9:ab;16:c;", "9:ab;"]),
-        (16, 16, ["9:ab;16:c;", "9:ab;16:c;", "9:ab;16:c;"]),
-    ];
-    for (from, to, [none, all, inverted]) in cases {
-        for honest in from..=to {
-            for (image, want) in [(0, none), (1, all), (2, inverted)] {
-                let left = left_after_crash(&rt, rt.alloc(), honest, image)?;
-                assert_eq!(rt; left.as_str(), want, "image {image} after {honest} calls");
-            }
-        }
+/// What a crash leaves after so many calls with no pending write, with all, and with all inverted.
+fn left_after(rt: &impl Abort, alloc: Global, honest: usize) -> Result<String, Fail> {
+    let none = shown(alloc, crashed(rt, alloc, honest, 0)?.bytes())?;
+    let all = shown(alloc, crashed(rt, alloc, honest, 1)?.bytes())?;
+    let inverted = shown(alloc, crashed(rt, alloc, honest, 2)?.bytes())?;
+    Ok(format!(in alloc; "{none} {all} {inverted}")?)
+}
+
+fn check_left(rt: &impl Abort, alloc: Global, honest: usize) -> Result<(), Fail> {
+    let want = match honest {
+        0..=8 => "  ",
+        9 => " 9:ab; ",
+        10..=14 => "9:ab; 9:ab; 9:ab;",
+        15 => "9:ab; 9:ab;16:c; 9:ab;",
+        _ => "9:ab;16:c; 9:ab;16:c; 9:ab;16:c;",
+    };
+    let left = left_after(rt, alloc, honest)?;
+    assert_eq!(rt; left.as_str(), want, "after {honest} calls");
+    Ok(())
+}
+
+fn check_crashes(rt: &impl Abort, alloc: Global) -> Result<(), Fail> {
+    for honest in 0..17 {
+        check_left(rt, alloc, honest)?;
     }
     Ok(())
 }
 
+#[test]
+fn a_crash_leaves_the_old_records_or_one_more(rt: HostRuntime) -> Result<(), Fail> {
+    check_crashes(&rt, rt.alloc())
+}
+
+fn check_bytes(rt: &impl Abort, alloc: Global) -> Result<(), Fail> {
+    let disk = crashed(rt, alloc, 16, 0)?;
+    let want = b"DCGKAJ1\n\x01\0\0\0\x02ab\x01\0\0\0\x01c\0";
+    assert_eq!(rt; disk.bytes(), want.as_slice());
+    Ok(())
+}
+
+#[test]
+fn writes_the_bytes_of_a_journal(rt: HostRuntime) -> Result<(), Fail> {
+    check_bytes(&rt, rt.alloc())
+}
+
 /// How many records the large journal has, and how many bytes each of them has.
-const MANY: u32 = 4_000;
+const MANY: u32 = 400;
 
-const LONG: usize = 5_000;
+const LONG: usize = 500;
 
-/// A settled disk with a large journal, of 20 million bytes, of which the call with this number fails.
+/// A settled disk with a large journal, of 200,000 bytes, of which the call with this number fails.
 fn large_disk(alloc: Global, failing: u32) -> Result<MemDisk, Fail> {
     let mut bytes = b"DCGKAJ1\n".as_slice().to_vec(alloc)?;
     for _ in 0..MANY {
-        bytes.extend_from_slice(b"\x01\0\0\x13\x88")?;
+        bytes.extend_from_slice(b"\x01\0\0\x01\xf4")?;
         bytes.extend_from_slice(&[b'a'; LONG])?;
     }
     bytes.push(0)?;
@@ -200,9 +197,6 @@ struct WatchedDisk {
     calls: u64,
     /// How many bytes its reads asked for, all together.
     asked: u64,
-    /// Where the last read ended, and whether each read began behind the one before.
-    end: u64,
-    is_forward: bool,
 }
 
 impl WatchedDisk {
@@ -212,8 +206,6 @@ impl WatchedDisk {
             honest,
             calls: 0,
             asked: 0,
-            end: 0,
-            is_forward: true,
         }
     }
 }
@@ -254,8 +246,6 @@ impl Disk for WatchedDisk {
     fn read(&mut self, at: u64, into: &mut [u8]) -> Result<usize, DiskError> {
         self.calls = self.calls.saturating_add(1);
         self.asked = self.asked.saturating_add(into.len() as u64);
-        self.is_forward = self.is_forward && self.end <= at;
-        self.end = at.saturating_add(into.len() as u64);
         if self.calls > self.honest {
             return Ok(0);
         }
@@ -273,24 +263,9 @@ impl Disk for WatchedDisk {
     }
 }
 
-// Opening syncs, asks for the length, reads the 8 bytes of the magic and then, from front to back, the 5 bytes of each gate and
-// its length, the last gate too.
-#[test]
-fn opens_by_one_read_for_each_record(rt: HostRuntime) -> Result<(), Fail> {
-    let watched = WatchedDisk::new(large_disk(rt.alloc(), 0)?, u64::MAX);
-    let journal = Journal::open(rt.alloc(), watched).map_err(|(_, fault)| fault)?;
-    assert_eq!(rt; journal.count(), MANY);
-    let watched = journal.close();
-    assert_eq!(rt; watched.calls, 3 + 4_001);
-    assert_eq!(rt; watched.asked, 8 + 5 * 4_001);
-    assert_eq!(rt; watched.is_forward, true);
-    Ok(())
-}
-
-/// How many records the large journal has when it is opened, and the first fault of opening it and reading a record, where the
-/// call with this number fails.
-fn first_fault(alloc: Global, failing: u32) -> Result<(u32, Option<JournalFault>), Fail> {
-    match Journal::open(alloc, large_disk(alloc, failing)?) {
+/// How many records a journal has when it is opened, the first fault of opening it and reading a record, and its disk.
+fn first_fault<D: Disk>(alloc: Global, disk: D) -> (u32, Option<JournalFault>, D) {
+    match Journal::open(alloc, disk) {
         Ok(mut journal) => {
             let count = journal.count();
             let fault = if count > 0 {
@@ -298,43 +273,78 @@ fn first_fault(alloc: Global, failing: u32) -> Result<(u32, Option<JournalFault>
             } else {
                 None
             };
-            let _ = journal.close();
-            Ok((count, fault))
+            (count, fault, journal.close())
         }
-        Err((_, fault)) => Ok((0, Some(fault))),
+        Err((disk, fault)) => (0, Some(fault), disk),
     }
 }
 
-// The write comes first, so that the last call of opening has the number 1 + 3 + 4,001. The next one is that of reading.
-#[test]
-fn opening_ends_with_the_last_gate(rt: HostRuntime) -> Result<(), Fail> {
-    let disk = Some(JournalFault::Disk);
-    for (failing, want) in [
-        (2, (0, disk)),
-        (4_005, (0, disk)),
-        (4_006, (MANY, disk)),
-        (4_007, (MANY, None)),
-    ] {
-        let found = first_fault(rt.alloc(), failing)?;
-        assert_eq!(rt; found, want, "call {failing} fails");
+/// The same as text.
+fn fault_text(alloc: Global, count: u32, fault: Option<JournalFault>) -> Result<String, Fail> {
+    match fault {
+        None => Ok(format!(in alloc; "{count}")?),
+        Some(fault) => Ok(format!(in alloc; "{count}, {fault}")?),
     }
+}
+
+fn check_opened(rt: &impl Abort, alloc: Global, failing: u32, want: &str) -> Result<(), Fail> {
+    let (count, fault, _) = first_fault(alloc, large_disk(alloc, failing)?);
+    let text = fault_text(alloc, count, fault)?;
+    assert_eq!(rt; text.as_str(), want, "call {failing} fails");
     Ok(())
 }
 
-// Opening makes 5 calls, of which the last three read the magic and the two gates.
+/// The same over a disk that tells nothing and whose reads find no byte after so many calls, with what it was asked.
+fn check_watched(
+    rt: &impl Abort,
+    alloc: Global,
+    disk: MemDisk,
+    honest: u64,
+    want: &str,
+) -> Result<(), Fail> {
+    let (count, fault, watched) = first_fault(alloc, WatchedDisk::new(disk, honest));
+    let text = fault_text(alloc, count, fault)?;
+    let (calls, asked) = (watched.calls, watched.asked);
+    let text = format!(in alloc; "{text}; {calls} calls for {asked} bytes")?;
+    assert_eq!(rt; text.as_str(), want, "after {honest} calls");
+    Ok(())
+}
+
+/// Opening syncs, asks for the length, reads the 8 bytes of the magic and then the 5 bytes of each gate and its length,
+/// the last gate too. Then a record is read.
+fn check_large(rt: &impl Abort, alloc: Global) -> Result<(), Fail> {
+    check_watched(
+        rt,
+        alloc,
+        large_disk(alloc, 0)?,
+        u64::MAX,
+        "400; 405 calls for 2513 bytes",
+    )?;
+    // the write of the bytes comes first, so that the last call of opening has the number 1 + 3 + 401
+    check_opened(rt, alloc, 2, "0, the disk failed")?;
+    check_opened(rt, alloc, 405, "0, the disk failed")?;
+    check_opened(rt, alloc, 406, "400, the disk failed")
+}
+
+#[test]
+fn opens_by_one_read_for_each_record(rt: HostRuntime) -> Result<(), Fail> {
+    check_large(&rt, rt.alloc())
+}
+
+/// A disk with one record.
+fn small_disk(alloc: Global) -> Result<MemDisk, DiskError> {
+    disk_with(alloc, b"DCGKAJ1\n\x01\0\0\0\x02ab\0".as_slice())
+}
+
+/// Opening makes 5 calls, of which the last three read the magic and the two gates.
+fn check_small(rt: &impl Abort, alloc: Global) -> Result<(), Fail> {
+    let short = "1, the bytes are no journal at place 9; 6 calls for 20 bytes";
+    check_watched(rt, alloc, small_disk(alloc)?, 2, "0; 3 calls for 8 bytes")?;
+    check_watched(rt, alloc, small_disk(alloc)?, 3, "0; 4 calls for 13 bytes")?;
+    check_watched(rt, alloc, small_disk(alloc)?, 4, short)
+}
+
 #[test]
 fn a_disk_that_tells_nothing_may_end_early(rt: HostRuntime) -> Result<(), Fail> {
-    let bytes = b"DCGKAJ1\n\x01\0\0\0\x02ab\0";
-    for (honest, count) in [(2, 0), (3, 0), (4, 1), (5, 1)] {
-        let disk = WatchedDisk::new(disk_with(rt.alloc(), bytes.as_slice())?, honest);
-        let mut journal = Journal::open(rt.alloc(), disk).map_err(|(_, fault)| fault)?;
-        assert_eq!(rt; journal.count(), count, "after {honest} calls");
-        if journal.count() > 0 {
-            let short = journal.read(0).err();
-            assert_eq!(rt; short, Some(JournalFault::NotJournal(9)));
-            assert_eq!(rt; journal.count(), count, "after {honest} calls");
-        }
-        let _ = journal.close();
-    }
-    Ok(())
+    check_small(&rt, rt.alloc())
 }

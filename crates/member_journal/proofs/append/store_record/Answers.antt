@@ -1,65 +1,57 @@
-use Rattle.std.proofs.Common.{◌≡◌, ◌+◌, ℕ, [], ◌∷◌, ◌++◌, List, length, refl, sym, subst, arith, add-zero, length-append}
+use Rattle.std.proofs.Common.{◌≡◌, ◌+◌, ℕ, [], ◌∷◌, ◌++◌, List, length, refl, sym, ap, subst, arith, length-append}
 use Rattle.std.specs.Int.{to_be_bytes, w32}
-use Rattle.disk_trait.specs.Disk.{MayTear, Wrote}
+use Rattle.disk_trait.specs.Disk.{Wrote}
 use Rattle.member_journal.specs.Append.{framed}
-use Rattle.member_journal.proofs.Calls.{started, wrote, synced}
+use Rattle.member_journal.proofs.Calls.{wrote_first, wrote_next, synced}
 use Rattle.member_journal.proofs.Writes.{wrote_on}
 use Rattle.member_journal.proofs.append.store_record.Goals as goal
 
 pub returns-in_err-write_at-clause-moments : goal.returns-in_err-write_at-clause-moments
 returns-in_err-write_at-clause-moments g c told =
-    let s0 = started g.D.Disk.content g.D.Disk.image g.D.Disk.clock g.D.Disk.image_since c.args.at (length c.args.payload.now + 5) c.args.disk.now (λ image since. g.met.D.Disk.only_now c.args.disk.now image told since) (c.requires.settled told) in
-    let s1 = wrote g.D.Disk.content g.D.Disk.image g.D.Disk.clock g.D.Disk.image_since c.args.at (length c.args.payload.now + 5) c.args.disk.now c.args.disk.now c.write_at.new.self 0 4 s0 (c.requires.inside told) (omega arith)
-    (subst (λ (p : ℕ). MayTear p 4 (g.D.Disk.image c.args.disk.now) (g.D.Disk.image c.write_at.new.self)) (sym (add-zero c.args.at))
-    (subst (λ (bytes : List ℕ). MayTear c.args.at (length bytes) (g.D.Disk.image c.args.disk.now) (g.D.Disk.image c.write_at.new.self)) c.to_be_bytes.ensures (c.write_at.ensures.crash told))) (c.write_at.ensures.time told) in
+    let s1 = wrote_first g.D.Disk c.args.at (length c.args.payload.now + 5) c.args.disk.now c.write_at.new.self 4 _ (ap length c.to_be_bytes.ensures) (omega arith)
+    (λ image since. g.met.D.Disk.only_now c.args.disk.now image told since) (c.requires.settled told) (c.write_at.ensures.crash told) (c.write_at.ensures.time told) in
     s1.moments
 
 pub returns-in_err-write_at-2-clause-moments : goal.returns-in_err-write_at-2-clause-moments
 returns-in_err-write_at-2-clause-moments g c told =
-    let s0 = started g.D.Disk.content g.D.Disk.image g.D.Disk.clock g.D.Disk.image_since c.args.at (length c.args.payload.now + 5) c.args.disk.now (λ image since. g.met.D.Disk.only_now c.args.disk.now image told since) (c.requires.settled told) in
-    let s1 = wrote g.D.Disk.content g.D.Disk.image g.D.Disk.clock g.D.Disk.image_since c.args.at (length c.args.payload.now + 5) c.args.disk.now c.args.disk.now c.write_at.new.self 0 4 s0 (c.requires.inside told) (omega arith)
-    (subst (λ (p : ℕ). MayTear p 4 (g.D.Disk.image c.args.disk.now) (g.D.Disk.image c.write_at.new.self)) (sym (add-zero c.args.at))
-    (subst (λ (bytes : List ℕ). MayTear c.args.at (length bytes) (g.D.Disk.image c.args.disk.now) (g.D.Disk.image c.write_at.new.self)) c.to_be_bytes.ensures (c.write_at.ensures.crash told))) (c.write_at.ensures.time told) in
-    let s2 = wrote g.D.Disk.content g.D.Disk.image g.D.Disk.clock g.D.Disk.image_since c.args.at (length c.args.payload.now + 5) c.args.disk.now c.write_at.new.self c.write_at-2.new.self 4 (length c.args.payload.now) s1 (c.requires.inside told) (omega arith)
-    (subst (λ (p : ℕ). MayTear p (length c.args.payload.now) (g.D.Disk.image c.write_at.new.self) (g.D.Disk.image c.write_at-2.new.self)) refl (c.write_at-2.ensures.crash told)) (c.write_at-2.ensures.time told) in
+    let s1 = wrote_first g.D.Disk c.args.at (length c.args.payload.now + 5) c.args.disk.now c.write_at.new.self 4 _ (ap length c.to_be_bytes.ensures) (omega arith)
+    (λ image since. g.met.D.Disk.only_now c.args.disk.now image told since) (c.requires.settled told) (c.write_at.ensures.crash told) (c.write_at.ensures.time told) in
+    let s2 = wrote_next g.D.Disk c.args.at (length c.args.payload.now + 5) c.args.disk.now c.write_at.new.self c.write_at-2.new.self 4 (length c.args.payload.now) (c.args.at + 4) refl (omega arith) (c.requires.inside told) s1
+    (c.write_at-2.ensures.crash told) (c.write_at-2.ensures.time told) in
     s2.moments
 
 pub returns-in_err-write_at-3-clause-moments : goal.returns-in_err-write_at-3-clause-moments
 returns-in_err-write_at-3-clause-moments g c told =
-    let s0 = started g.D.Disk.content g.D.Disk.image g.D.Disk.clock g.D.Disk.image_since c.args.at (length c.args.payload.now + 5) c.args.disk.now (λ image since. g.met.D.Disk.only_now c.args.disk.now image told since) (c.requires.settled told) in
-    let s1 = wrote g.D.Disk.content g.D.Disk.image g.D.Disk.clock g.D.Disk.image_since c.args.at (length c.args.payload.now + 5) c.args.disk.now c.args.disk.now c.write_at.new.self 0 4 s0 (c.requires.inside told) (omega arith)
-    (subst (λ (p : ℕ). MayTear p 4 (g.D.Disk.image c.args.disk.now) (g.D.Disk.image c.write_at.new.self)) (sym (add-zero c.args.at))
-    (subst (λ (bytes : List ℕ). MayTear c.args.at (length bytes) (g.D.Disk.image c.args.disk.now) (g.D.Disk.image c.write_at.new.self)) c.to_be_bytes.ensures (c.write_at.ensures.crash told))) (c.write_at.ensures.time told) in
-    let s2 = wrote g.D.Disk.content g.D.Disk.image g.D.Disk.clock g.D.Disk.image_since c.args.at (length c.args.payload.now + 5) c.args.disk.now c.write_at.new.self c.write_at-2.new.self 4 (length c.args.payload.now) s1 (c.requires.inside told) (omega arith)
-    (subst (λ (p : ℕ). MayTear p (length c.args.payload.now) (g.D.Disk.image c.write_at.new.self) (g.D.Disk.image c.write_at-2.new.self)) refl (c.write_at-2.ensures.crash told)) (c.write_at-2.ensures.time told) in
-    let s3 = wrote g.D.Disk.content g.D.Disk.image g.D.Disk.clock g.D.Disk.image_since c.args.at (length c.args.payload.now + 5) c.args.disk.now c.write_at-2.new.self c.write_at-3.new.self (4 + length c.args.payload.now) (1) s2 (c.requires.inside told) (omega arith)
-    (subst (λ (p : ℕ). MayTear p (1) (g.D.Disk.image c.write_at-2.new.self) (g.D.Disk.image c.write_at-3.new.self)) (omega arith) (c.write_at-3.ensures.crash told)) (c.write_at-3.ensures.time told) in
+    let s1 = wrote_first g.D.Disk c.args.at (length c.args.payload.now + 5) c.args.disk.now c.write_at.new.self 4 _ (ap length c.to_be_bytes.ensures) (omega arith)
+    (λ image since. g.met.D.Disk.only_now c.args.disk.now image told since) (c.requires.settled told) (c.write_at.ensures.crash told) (c.write_at.ensures.time told) in
+    let s2 = wrote_next g.D.Disk c.args.at (length c.args.payload.now + 5) c.args.disk.now c.write_at.new.self c.write_at-2.new.self 4 (length c.args.payload.now) (c.args.at + 4) refl (omega arith) (c.requires.inside told) s1
+    (c.write_at-2.ensures.crash told) (c.write_at-2.ensures.time told) in
+    let s3 = wrote_next g.D.Disk c.args.at (length c.args.payload.now + 5) c.args.disk.now c.write_at-2.new.self c.write_at-3.new.self (4 + length c.args.payload.now) 1 _ (omega (arith, c.from.ensures)) (omega arith) (c.requires.inside told) s2
+    (c.write_at-3.ensures.crash told) (c.write_at-3.ensures.time told) in
     s3.moments
 
 pub returns-in_err-sync-clause-moments : goal.returns-in_err-sync-clause-moments
 returns-in_err-sync-clause-moments g c told =
-    let s0 = started g.D.Disk.content g.D.Disk.image g.D.Disk.clock g.D.Disk.image_since c.args.at (length c.args.payload.now + 5) c.args.disk.now (λ image since. g.met.D.Disk.only_now c.args.disk.now image told since) (c.requires.settled told) in
-    let s1 = wrote g.D.Disk.content g.D.Disk.image g.D.Disk.clock g.D.Disk.image_since c.args.at (length c.args.payload.now + 5) c.args.disk.now c.args.disk.now c.write_at.new.self 0 4 s0 (c.requires.inside told) (omega arith)
-    (subst (λ (p : ℕ). MayTear p 4 (g.D.Disk.image c.args.disk.now) (g.D.Disk.image c.write_at.new.self)) (sym (add-zero c.args.at))
-    (subst (λ (bytes : List ℕ). MayTear c.args.at (length bytes) (g.D.Disk.image c.args.disk.now) (g.D.Disk.image c.write_at.new.self)) c.to_be_bytes.ensures (c.write_at.ensures.crash told))) (c.write_at.ensures.time told) in
-    let s2 = wrote g.D.Disk.content g.D.Disk.image g.D.Disk.clock g.D.Disk.image_since c.args.at (length c.args.payload.now + 5) c.args.disk.now c.write_at.new.self c.write_at-2.new.self 4 (length c.args.payload.now) s1 (c.requires.inside told) (omega arith)
-    (subst (λ (p : ℕ). MayTear p (length c.args.payload.now) (g.D.Disk.image c.write_at.new.self) (g.D.Disk.image c.write_at-2.new.self)) refl (c.write_at-2.ensures.crash told)) (c.write_at-2.ensures.time told) in
-    let s3 = wrote g.D.Disk.content g.D.Disk.image g.D.Disk.clock g.D.Disk.image_since c.args.at (length c.args.payload.now + 5) c.args.disk.now c.write_at-2.new.self c.write_at-3.new.self (4 + length c.args.payload.now) (1) s2 (c.requires.inside told) (omega arith)
-    (subst (λ (p : ℕ). MayTear p (1) (g.D.Disk.image c.write_at-2.new.self) (g.D.Disk.image c.write_at-3.new.self)) (omega arith) (c.write_at-3.ensures.crash told)) (c.write_at-3.ensures.time told) in
-    let s4 = synced g.D.Disk.content g.D.Disk.image g.D.Disk.clock g.D.Disk.image_since c.args.at (length c.args.payload.now + 5) c.args.disk.now c.write_at-3.new.self c.sync.new.self (4 + length c.args.payload.now + 1) s3 (omega arith) (c.sync.ensures.crash told) (c.sync.ensures.time told) in
+    let s1 = wrote_first g.D.Disk c.args.at (length c.args.payload.now + 5) c.args.disk.now c.write_at.new.self 4 _ (ap length c.to_be_bytes.ensures) (omega arith)
+    (λ image since. g.met.D.Disk.only_now c.args.disk.now image told since) (c.requires.settled told) (c.write_at.ensures.crash told) (c.write_at.ensures.time told) in
+    let s2 = wrote_next g.D.Disk c.args.at (length c.args.payload.now + 5) c.args.disk.now c.write_at.new.self c.write_at-2.new.self 4 (length c.args.payload.now) (c.args.at + 4) refl (omega arith) (c.requires.inside told) s1
+    (c.write_at-2.ensures.crash told) (c.write_at-2.ensures.time told) in
+    let s3 = wrote_next g.D.Disk c.args.at (length c.args.payload.now + 5) c.args.disk.now c.write_at-2.new.self c.write_at-3.new.self (4 + length c.args.payload.now) 1 _ (omega (arith, c.from.ensures)) (omega arith) (c.requires.inside told) s2
+    (c.write_at-3.ensures.crash told) (c.write_at-3.ensures.time told) in
+    let s4 = synced g.D.Disk c.args.at (length c.args.payload.now + 5) c.args.disk.now c.write_at-3.new.self c.sync.new.self (4 + length c.args.payload.now + 1) (omega arith) s3
+    (c.sync.ensures.crash told) (c.sync.ensures.time told) in
     s4.moments
 
 pub returns-clause-moments : goal.returns-clause-moments
 returns-clause-moments g c told =
-    let s0 = started g.D.Disk.content g.D.Disk.image g.D.Disk.clock g.D.Disk.image_since c.args.at (length c.args.payload.now + 5) c.args.disk.now (λ image since. g.met.D.Disk.only_now c.args.disk.now image told since) (c.requires.settled told) in
-    let s1 = wrote g.D.Disk.content g.D.Disk.image g.D.Disk.clock g.D.Disk.image_since c.args.at (length c.args.payload.now + 5) c.args.disk.now c.args.disk.now c.write_at.new.self 0 4 s0 (c.requires.inside told) (omega arith)
-    (subst (λ (p : ℕ). MayTear p 4 (g.D.Disk.image c.args.disk.now) (g.D.Disk.image c.write_at.new.self)) (sym (add-zero c.args.at))
-    (subst (λ (bytes : List ℕ). MayTear c.args.at (length bytes) (g.D.Disk.image c.args.disk.now) (g.D.Disk.image c.write_at.new.self)) c.to_be_bytes.ensures (c.write_at.ensures.crash told))) (c.write_at.ensures.time told) in
-    let s2 = wrote g.D.Disk.content g.D.Disk.image g.D.Disk.clock g.D.Disk.image_since c.args.at (length c.args.payload.now + 5) c.args.disk.now c.write_at.new.self c.write_at-2.new.self 4 (length c.args.payload.now) s1 (c.requires.inside told) (omega arith)
-    (subst (λ (p : ℕ). MayTear p (length c.args.payload.now) (g.D.Disk.image c.write_at.new.self) (g.D.Disk.image c.write_at-2.new.self)) refl (c.write_at-2.ensures.crash told)) (c.write_at-2.ensures.time told) in
-    let s3 = wrote g.D.Disk.content g.D.Disk.image g.D.Disk.clock g.D.Disk.image_since c.args.at (length c.args.payload.now + 5) c.args.disk.now c.write_at-2.new.self c.write_at-3.new.self (4 + length c.args.payload.now) (1) s2 (c.requires.inside told) (omega arith)
-    (subst (λ (p : ℕ). MayTear p (1) (g.D.Disk.image c.write_at-2.new.self) (g.D.Disk.image c.write_at-3.new.self)) (omega arith) (c.write_at-3.ensures.crash told)) (c.write_at-3.ensures.time told) in
-    let s4 = synced g.D.Disk.content g.D.Disk.image g.D.Disk.clock g.D.Disk.image_since c.args.at (length c.args.payload.now + 5) c.args.disk.now c.write_at-3.new.self c.sync.new.self (4 + length c.args.payload.now + 1) s3 (omega arith) (c.sync.ensures.crash told) (c.sync.ensures.time told) in
+    let s1 = wrote_first g.D.Disk c.args.at (length c.args.payload.now + 5) c.args.disk.now c.write_at.new.self 4 _ (ap length c.to_be_bytes.ensures) (omega arith)
+    (λ image since. g.met.D.Disk.only_now c.args.disk.now image told since) (c.requires.settled told) (c.write_at.ensures.crash told) (c.write_at.ensures.time told) in
+    let s2 = wrote_next g.D.Disk c.args.at (length c.args.payload.now + 5) c.args.disk.now c.write_at.new.self c.write_at-2.new.self 4 (length c.args.payload.now) (c.args.at + 4) refl (omega arith) (c.requires.inside told) s1
+    (c.write_at-2.ensures.crash told) (c.write_at-2.ensures.time told) in
+    let s3 = wrote_next g.D.Disk c.args.at (length c.args.payload.now + 5) c.args.disk.now c.write_at-2.new.self c.write_at-3.new.self (4 + length c.args.payload.now) 1 _ (omega (arith, c.from.ensures)) (omega arith) (c.requires.inside told) s2
+    (c.write_at-3.ensures.crash told) (c.write_at-3.ensures.time told) in
+    let s4 = synced g.D.Disk c.args.at (length c.args.payload.now + 5) c.args.disk.now c.write_at-3.new.self c.sync.new.self (4 + length c.args.payload.now + 1) (omega arith) s3
+    (c.sync.ensures.crash told) (c.sync.ensures.time told) in
     s4.moments
 
 pub returns-clause-written : goal.returns-clause-written

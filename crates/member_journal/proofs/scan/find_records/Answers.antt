@@ -17,7 +17,7 @@ err_gate fault = Err fault
 
 pub loop-layout-init : goal.loop-layout-init
 loop-layout-init g c = record {
-  keeps = keeps_none g.D.Disk.told g.D.Disk.content g.D.Disk.image g.D.Disk.clock g.D.Disk.image_since g.D.Disk.follows c.args.disk.now
+  keeps = keeps_none g.D.Disk c.args.disk.now
       (λ image told since. g.met.D.Disk.only_now c.args.disk.now image told since) (g.met.D.Disk.follows_itself c.args.disk.now);
   counts = refl;
   settled = c.requires.settled;
@@ -41,7 +41,7 @@ loop-layout-preserved g c =
     (λ full. let full_too : false ≡ true = c.if-is_full.ensures.1 (omega (arith, full)) in cc)
     (less_or_not (length c.loop-layout.layout.rooms.items) most_records) in
     record {
-      keeps = keeps_on g.D.Disk.told g.D.Disk.content g.D.Disk.image g.D.Disk.clock g.D.Disk.image_since g.D.Disk.follows c.args.disk.now c.loop-layout.disk c.read_gate.new.disk
+      keeps = keeps_on g.D.Disk c.args.disk.now c.loop-layout.disk c.read_gate.new.disk
           (g.met.D.Disk.follows_on c.args.disk.now c.loop-layout.disk c.read_gate.new.disk) inv.keeps read.keeps;
       counts = read.cause.succeeded ∙ inv.counts;
       settled = λ told image now. inv.settled told image ((read.keeps.reads told).images image now) ∙ sym (read.keeps.reads told).stays;

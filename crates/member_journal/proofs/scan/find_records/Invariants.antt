@@ -7,7 +7,7 @@ use Rattle.member_journal.proofs.scan.find_records.Given as goal
 
 abbrev pub invariant-loop-layout : goal.invariant-loop-layout
 invariant-loop-layout g l = record {
-  keeps : KeepsDisk g.D.Disk.told g.D.Disk.content g.D.Disk.image g.D.Disk.clock g.D.Disk.image_since g.D.Disk.follows l.initial.disk l.disk;
+  keeps : KeepsDisk g.D.Disk l.initial.disk l.disk;
   counts : g.D.Disk.counts l.disk ≡ g.D.Disk.counts l.initial.disk;
   settled : g.D.Disk.told → LeavesOnly (g.D.Disk.content l.disk) (g.D.Disk.image l.disk);
   front : g.D.Disk.told → Front (entries_at (g.D.Disk.content l.initial.disk) l.layout.rooms.items) (most_records - length l.layout.rooms.items) l.layout.gate (g.D.Disk.content l.initial.disk);

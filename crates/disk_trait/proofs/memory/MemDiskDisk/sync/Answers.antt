@@ -1,4 +1,4 @@
-use Rattle.std.proofs.Common.{◌≡◌, ◌++◌, [], ◌∷◌, ◌∙◌, ap, sym}
+use Rattle.std.proofs.Common.{◌≡◌, inl, ◌++◌, [], ◌∷◌, ◌∙◌, ap, sym}
 use Rattle.disk_trait.specs.declared.memory.Change.TheVariants.{Sync}
 use Rattle.disk_trait.specs.declared.memory.MemDisk.{MemDisk}
 use Rattle.disk_trait.specs.Replay.{fresh}
@@ -23,3 +23,9 @@ returns-in-Ok-clause-time c = passes _ _ _ _ Sync (first_kept c) (grown c)
 
 pub returns-in-Ok-clause-settled : goal.returns-in-Ok-clause-settled
 returns-in-Ok-clause-settled c = standing _ _ _ _ Sync (first_kept c) (grown c) ∙ ap fresh (sym c.args.self.now.shows)
+
+pub returns-in-Ok-clause-syncs : goal.returns-in-Ok-clause-syncs
+returns-in-Ok-clause-syncs c = record {
+  call = c.in-Ok.ensures.asked ∙ c.in_ok-begin.ensures.planned.number;
+  standing = inl (standing _ _ _ _ Sync (first_kept c) (grown c) ∙ ap fresh (sym c.args.self.now.shows));
+}
