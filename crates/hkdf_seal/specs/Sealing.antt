@@ -1,5 +1,5 @@
 -- Sealed texts: a text under a key stream, and a tag over the result.
-use Rattle.std.specs.Prelude.{ℕ, zero, suc, ◌+◌, ◌/◌, List, [], ◌∷◌, ◌++◌, length, bit_xor, codes}
+use Rattle.std.specs.Prelude.{ℕ, zero, suc, ◌+◌, ◌-◌, ◌/◌, List, [], ◌∷◌, ◌++◌, length, take, drop, bit_xor, codes, bytes_eq, Option, Some, None, if◌then◌else◌}
 use Rattle.byteorder.specs.Endian.{little_bytes}
 use Rattle.rand_chacha.specs.ChaCha.{word_at, key_of}
 use Rattle.hkdf_seal.specs.Keys.{hmac, kdf}
@@ -30,3 +30,15 @@ sealed key text = xor_stream (kdf key (codes "stream") []) text
 -- the tag over a sealed text
 unfoldable pub tag_of : List ℕ → List ℕ → List ℕ
 tag_of key body = hmac (kdf key (codes "mac") []) body
+
+-- a text sealed, with its tag behind it
+unfoldable pub sealed_with_tag : List ℕ → List ℕ → List ℕ
+sealed_with_tag key text = sealed key text ++ tag_of key (sealed key text)
+
+-- what a sealed text opens to: nothing where the tag isn't its own
+abbrev pub opened_by_tag : (key body tag : List ℕ) → Option (List ℕ)
+opened_by_tag key body tag = if bytes_eq tag (tag_of key body) then Some (sealed key body) else None
+
+-- what bytes open to whose last 32 are the tag
+unfoldable pub opened : List ℕ → List ℕ → Option (List ℕ)
+opened key bytes = opened_by_tag key (take (length bytes - 32) bytes) (drop (length bytes - 32) bytes)

@@ -3,11 +3,13 @@
 #![tactic(auto)]
 
 pub use hkdf::{expand, extract, kdf};
+pub use laws::{has_lengths, opening_undoes_sealing};
 pub use mac::hmac;
 pub use sealing::{open, seal};
 
 mod bytes;
 mod hkdf;
+mod laws;
 mod mac;
 mod sealing;
 #[cfg(test)]

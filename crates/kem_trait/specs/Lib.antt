@@ -1,2 +1,4 @@
 pub mod Encapsulated
+pub mod Lengths
+pub mod Streams
 pub mod Words

@@ -1,7 +1,10 @@
 //! The trait.
 
-ghost use Rattle.std.specs.Prelude.{◌≡◌, ◌↔◌, Bool, true, List, ℕ, Option, Some, None, length, map, Any, IsSome, IfOk, IfSome, IsErrOf, OnOk, ◌++◌, ◌∷◌, []};
+ghost use Rattle.std.specs.Prelude.{◌≡◌, ◌↔◌, Bool, true, List, ℕ, Option, Some, None, length, map, Any};
+ghost use Rattle.std.specs.Prelude.{IsSome, IfOk, IfSome, IsErrOf, OnOk, ◌++◌, ◌∷◌, []};
 ghost use Rattle.kem_trait.specs.Encapsulated.{Encapsulated};
+ghost use Rattle.kem_trait.specs.Lengths.{HasSetLengths};
+ghost use Rattle.kem_trait.specs.Streams.{Stream, behind};
 
 use crate::Words;
 use std::alloc::{AllocError, Global};
@@ -77,7 +80,8 @@ impl<T> PairList<T> {
     }
 }
 
-/// A key encapsulation. Its keys and ciphertexts are bytes; a slice of them has the length that its constant states.
+/// A key encapsulation. Its keys and ciphertexts are bytes; a slice of them has the length that its constant states. What
+/// it makes of words is a function of the stream of the words to come.
 pub trait Kem {
     ghost SET: { ℕ };
 
@@ -87,7 +91,7 @@ pub trait Kem {
 
     ghost CIPHER_LEN: { ℕ };
 
-    /// The number of the set of parameters.
+    /// The number of the set of parameters: 1 or 2.
     const SET: u8;
     /// How many bytes a public key has.
     const PUBLIC_LEN: usize;
@@ -100,7 +104,10 @@ pub trait Kem {
     type Pair: Drop;
 
     /// The secret key that words give, where they give a usable one.
-    ghost made: { (ℕ → ℕ) → Option (List ℕ) };
+    ghost made: { Stream → Option (List ℕ) };
+
+    /// How many of the words are taken to make a pair, or to find that they give none.
+    ghost pair_words: { Stream → ℕ };
 
     /// The bytes are the secret key of a tested pair.
     ghost is_secret: { List ℕ → Bool };
@@ -112,7 +119,10 @@ pub trait Kem {
     ghost is_public: { List ℕ → Bool };
 
     /// What is encapsulated to a public key by words.
-    ghost encapsulated: { List ℕ → (ℕ → ℕ) → Option Encapsulated };
+    ghost encapsulated: { List ℕ → Stream → Option Encapsulated };
+
+    /// How many of the words are taken to encapsulate a key.
+    ghost cipher_words: { ℕ };
 
     /// The key that a secret key finds in a ciphertext.
     ghost decapsulated: { List ℕ → List ℕ → Option (List ℕ) };
@@ -120,18 +130,62 @@ pub trait Kem {
     /// The secret key of a pair.
     ghost secret_key: { Self.Pair → List ℕ };
 
-    /// Makes a pair by words. `NoUsableKey` where they give none.
+    /// The number of the set fixes the lengths.
+    ghost has_set_lengths: { HasSetLengths SET PUBLIC_LEN SECRET_LEN CIPHER_LEN };
+
+    /// Each pair is tested.
+    ghost pairs_are_tested: { (pair : Self.Pair) → is_secret (secret_key pair) ≡ true };
+
+    /// What words give is the secret key of a tested pair.
+    ghost made_is_tested: { (words : Stream) (secret : List ℕ) → made words ≡ Some secret
+        → is_secret secret ≡ true };
+
+    /// The public key of a tested pair is one.
+    ghost public_is_public: { (secret : List ℕ) → is_secret secret ≡ true
+        → is_public (public_in secret) ≡ true };
+
+    /// Decapsulation undoes encapsulation.
+    ghost decapsulates: { (secret : List ℕ) (words : Stream) (e : Encapsulated) → is_secret secret ≡ true
+        → encapsulated (public_in secret) words ≡ Some e → decapsulated secret e.cipher ≡ Some e.key };
+
+    /// A secret key of a tested pair has its length.
+    ghost secrets_have_length: { (secret : List ℕ) → is_secret secret ≡ true
+        → length secret ≡ SECRET_LEN };
+
+    /// A public key has its length.
+    ghost publics_have_length: { (public : List ℕ) → is_public public ≡ true
+        → length public ≡ PUBLIC_LEN };
+
+    /// To each public key any words encapsulate.
+    ghost encapsulates: { (public : List ℕ) (words : Stream) → is_public public ≡ true
+        → IsSome (encapsulated public words) };
+
+    /// What is encapsulated is a ciphertext of its length and a key of 32 bytes.
+    ghost ciphers_have_length: { (public : List ℕ) (words : Stream) (e : Encapsulated)
+        → encapsulated public words ≡ Some e → (length e.cipher ≡ CIPHER_LEN) × (length e.key ≡ 32) };
+
+    /// Makes a pair by words. `NoUsableKey` where they give none. The words behind those taken are left; where memory
+    /// is wanting, which words are left is open.
     fn make<W: Words>(alloc: Global, words: &mut W) -> Result<Self::Pair, KemRefusal>
         ensures pair { IfOk result (λ pair. made (W.upcoming words.old) ≡ Some (secret_key pair)) }
-        ensures unusable { IsErrOf result KemRefusal.NoUsableKey → made (W.upcoming words.old) ≡ None };
+        ensures unusable { IsErrOf result KemRefusal.NoUsableKey → made (W.upcoming words.old) ≡ None }
+        ensures left { OnOk result (W.upcoming words.new
+            ≡ behind (pair_words (W.upcoming words.old)) (W.upcoming words.old)) }
+        ensures unusable_left { IsErrOf result KemRefusal.NoUsableKey
+            → W.upcoming words.new ≡ behind (pair_words (W.upcoming words.old)) (W.upcoming words.old) };
 
-    /// Makes for each source of words what `make` makes. `NoUsableKey` where some source gives no usable key.
+    /// Makes for each source of words what `make` makes, and leaves the words that `make` leaves. `NoUsableKey` where
+    /// some source gives no usable key; after a refusal, which words are left is open.
     fn make_many<W: Words>(
         alloc: Global,
         words: &mut [W],
     ) -> Result<PairList<Self::Pair>, KemRefusal>
-        ensures pairs { IfOk result (λ pairs. map (λ pair. Some (secret_key pair)) pairs ≡ map (λ w. made (W.upcoming w)) words.old) }
-        ensures unusable { IsErrOf result KemRefusal.NoUsableKey → Any (λ w. made (W.upcoming w) ≡ None) words.old }
+        ensures pairs { IfOk result (λ pairs. map (λ pair. Some (secret_key pair)) pairs
+            ≡ map (λ w. made (W.upcoming w)) words.old) }
+        ensures unusable { IsErrOf result KemRefusal.NoUsableKey
+            → Any (λ w. made (W.upcoming w) ≡ None) words.old }
+        ensures left { OnOk result (map (λ w. W.upcoming w) words.new
+            ≡ map (λ w. behind (pair_words (W.upcoming w)) (W.upcoming w)) words.old) }
     {
         let mut pairs = PairList::from_vec(Vec::new(alloc));
         for source in words.iter_mut() {
@@ -162,39 +216,17 @@ pub trait Kem {
         requires { length public.now ≡ PUBLIC_LEN }
         ensures { result ≡ is_public public.now };
 
-    /// Writes a ciphertext to a public key, and answers the key in it.
+    /// Writes a ciphertext to a public key, and answers the key in it. The words behind those taken are left.
     fn encap<W: Words>(public: &[u8], words: &mut W, cipher: &mut [u8]) -> [u8; 32]
         requires public_len { length public.now ≡ PUBLIC_LEN }
         requires public_ok { is_public public.now ≡ true }
         requires room { length cipher.old ≡ CIPHER_LEN }
-        ensures { encapsulated public.now (W.upcoming words.old) ≡ Some (record { cipher = cipher.new; key = result }) };
+        ensures given { encapsulated public.now (W.upcoming words.old)
+            ≡ Some (record { cipher = cipher.new; key = result }) }
+        ensures left { W.upcoming words.new ≡ behind cipher_words (W.upcoming words.old) };
 
     /// The key in a ciphertext. None where the ciphertext is not spelled.
     fn decap(pair: &Self::Pair, cipher: &[u8]) -> Option<[u8; 32]>
         requires { length cipher.now ≡ CIPHER_LEN }
         ensures { result ≡ decapsulated (secret_key pair.now) cipher.now };
-
-    /// Each pair is tested.
-    ghost pairs_are_tested: { (pair : Self.Pair) → is_secret (secret_key pair) ≡ true };
-
-    /// What words give is the secret key of a tested pair.
-    ghost made_is_tested: { (words : ℕ → ℕ) (secret : List ℕ) → made words ≡ Some secret → is_secret secret ≡ true };
-
-    /// The public key of a tested pair is one.
-    ghost public_is_public: { (secret : List ℕ) → is_secret secret ≡ true → is_public (public_in secret) ≡ true };
-
-    /// Decapsulation undoes encapsulation.
-    ghost decapsulates: { (secret : List ℕ) (words : ℕ → ℕ) (e : Encapsulated) → is_secret secret ≡ true → encapsulated (public_in secret) words ≡ Some e → decapsulated secret e.cipher ≡ Some e.key };
-
-    /// A secret key of a tested pair has its length.
-    ghost secrets_have_length: { (secret : List ℕ) → is_secret secret ≡ true → length secret ≡ SECRET_LEN };
-
-    /// A public key has its length.
-    ghost publics_have_length: { (public : List ℕ) → is_public public ≡ true → length public ≡ PUBLIC_LEN };
-
-    /// To each public key any words encapsulate.
-    ghost encapsulates: { (public : List ℕ) (words : ℕ → ℕ) → is_public public ≡ true → IsSome (encapsulated public words) };
-
-    /// What is encapsulated is a ciphertext of its length and a key of 32 bytes.
-    ghost ciphers_have_length: { (public : List ℕ) (words : ℕ → ℕ) (e : Encapsulated) → encapsulated public words ≡ Some e → (length e.cipher ≡ CIPHER_LEN) × (length e.key ≡ 32) };
 }

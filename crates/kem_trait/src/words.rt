@@ -1,7 +1,8 @@
 //! Streams of words.
 
-ghost use Rattle.std.specs.Prelude.{◌≡◌, ◌%◌, ◌^◌, ◌<◌, ℕ, suc, slice_index};
+ghost use Rattle.std.specs.Prelude.{◌≡◌, ◌^◌, ◌<◌, ℕ, suc, slice_index};
 ghost use Rattle.rand_chacha.specs.ChaCha.{ChaCha, key_of, of_seed, word_at};
+ghost use Rattle.kem_trait.specs.Streams.{Stream, words_of_seed};
 
 use rand_chacha::ChaCha20Rng;
 use rand_core::SeedableRng;
@@ -10,7 +11,7 @@ use rand_core::utils::NextWord;
 /// A stream of words of 32 bits, which does not end.
 pub trait Words {
     /// The words to come: that at each place, from 0 on.
-    ghost upcoming: { Self → ℕ → ℕ };
+    ghost upcoming: { Self → Stream };
 
     /// Takes the next word.
     fn next(&mut self) -> u32
@@ -30,7 +31,7 @@ impl SeedWords {
 
     /// The words of this seed.
     pub fn new(seed: &[u8; 32]) -> SeedWords
-        ensures { (n : ℕ) → seed_words result n ≡ word_at 10 (key_of seed.now) 0 (n % 2 ^ 68) }
+        ensures { seed_words result ≡ words_of_seed seed.now }
     {
         SeedWords {
             generator: ChaCha20Rng::from_seed(*seed),

@@ -1,10 +1,11 @@
 -- The spelling of a member's card.
-use Rattle.std.proofs.Common.{◌≡◌, ◌⊎◌, ⊎_elim, ℕ, IsTrue, ◌==◌, ◌&&◌, ◌||◌, List, length, take, drop, Option, Some, refl, sym, ◌∙◌, ap, arith}
+use Rattle.std.proofs.Common.{◌≡◌, ◌⊎◌, ⊎_elim, inl, inr, ℕ, IsTrue, ◌==◌, ◌&&◌, ◌||◌, List, length, take, drop, Option, Some, refl, sym, ◌∙◌, ap, arith}
 use Rattle.std.proofs.lemmas.Bool.Decides.{nat_tests}
 use Rattle.std.specs.Int.{w32, from_be_bytes}
 use Rattle.std.specs.Option.{option_map}
-use Rattle.group_fields.specs.Cards.{HasSpelling, Spells, key_size, lms_type, spelling}
+use Rattle.group_fields.specs.Cards.{HasSpelling, key_size, lms_type, spelling}
 use Rattle.group_fields.specs.declared.card.Card.{Card}
+use Rattle.kem_trait.specs.Lengths.{HasSetLengths}
 use Rattle.kem_trait.specs.declared.kem.Kem.{Ghosts}
 use Rattle.lms_sign.specs.Trees.{IsHeight, lms_public}
 use Rattle.member_identity.specs.Identity.{Origin, card_bytes, card_of, card_with, pair_words, secret_from}
@@ -32,6 +33,19 @@ heights set height is = grind (arith, nat_tests)
 
 pub is_height : (set height : ℕ) → IsTrue ((height == 10) || ((set == 2) && (height == 5))) → IsHeight height
 is_height set height is = grind (arith, nat_tests)
+
+-- the set of a key encapsulation is one that cards know, which have room for its public keys
+pub is_known_set : (set public secret cipher : ℕ) → HasSetLengths set public secret cipher → IsTrue ((set == 1) || (set == 2))
+is_known_set set public secret cipher has = elim has [
+  | inl first ↦ let is : set ≡ 1 = first.0 in grind (arith, nat_tests)
+  | inr second ↦ let is : set ≡ 2 = second.0 in grind (arith, nat_tests)
+]
+
+pub has_key_size : (set public secret cipher : ℕ) → HasSetLengths set public secret cipher → public ≡ key_size set
+has_key_size set public secret cipher has = elim has [
+  | inl first ↦ first.1 ∙ ap key_size (sym first.0)
+  | inr second ↦ second.1 ∙ ap key_size (sym second.0)
+]
 
 -- a card with the keys of a member has a spelling
 pub has_spelling : (card : Card) (height : ℕ) (id seed : List ℕ) → IsTrue ((card.set == 1) || (card.set == 2)) → IsTrue ((height == 10) || ((card.set == 2) && (height == 5)))
@@ -64,13 +78,13 @@ has_spelling card height id seed set is public size = ⊎_elim ten five (heights
         }
 
 module _ {K P : Type 0} (kem : Ghosts K P) where
-  -- bytes that spell the card with a member's secret key are its card
+  -- the spelling of the card with a member's secret key is its card
   pub bytes_of_card : (height : ℕ) (origin : Origin) (secret : List ℕ) (card : Card) → secret_from kem origin.random ≡ Some secret → card ≡ card_with kem height origin secret
-      → (bytes : List ℕ) → Spells card bytes → card_bytes kem height origin ≡ Some bytes
+      → (bytes : List ℕ) → bytes ≡ spelling card → card_bytes kem height origin ≡ Some bytes
   unfolding card_bytes card_of
-  bytes_of_card height origin secret card found is bytes spells =
+  bytes_of_card height origin secret card found is bytes whole =
       ap (λ (s : Option (List ℕ)). option_map spelling (option_map (card_with kem height origin) s)) found
-      ∙ ap (λ (c : Card). Some (spelling c)) (sym is) ∙ ap Some (sym spells.whole)
+      ∙ ap (λ (c : Card). Some (spelling c)) (sym is) ∙ ap Some (sym whole)
 
   pub secret_is : (random secret : List ℕ) → kem.made (pair_words random) ≡ Some secret → secret_from kem random ≡ Some secret
   unfolding secret_from

@@ -1,12 +1,12 @@
 -- What a member is by the step that made it: its key pair, its signing tree and its card. Each secret of it is derived from
 -- the random bytes under a label of its own.
-use Rattle.std.specs.Prelude.{◌≡◌, ℕ, IsTrue, ◌%◌, ◌^◌, ◌==◌, ◌&&◌, ◌||◌, List, [], take, codes, Option}
+use Rattle.std.specs.Prelude.{ℕ, IsTrue, ◌==◌, ◌&&◌, ◌||◌, List, [], take, codes, Option}
 use Rattle.std.specs.Option.{option_map}
-use Rattle.rand_chacha.specs.ChaCha.{key_of, word_at}
 use Rattle.hkdf_seal.specs.Keys.{kdf}
 use Rattle.lms_sign.specs.Trees.{LmsTree, lms_public}
-use Rattle.group_fields.specs.Cards.{key_size, spelling}
+use Rattle.group_fields.specs.Cards.{spelling}
 use Rattle.group_fields.specs.declared.card.Card.{Card}
+use Rattle.kem_trait.specs.Streams.{Stream, words_of_seed}
 use Rattle.kem_trait.specs.declared.kem.Kem.{Ghosts}
 
 -- the inviter's id, 32 zero bytes for nobody, and the 32 random bytes that were drawn
@@ -14,10 +14,9 @@ pub record Origin : Type 0 where
   pub inviter : List ℕ
   pub random : List ℕ
 
--- word n of those that the key pair is drawn from: ChaCha with 10 double rounds (RFC 8439, section 2.3) under the derived
--- key, stream 0, from its start; the words repeat after 2 ^ 68
-unfoldable pub pair_words : List ℕ → ℕ → ℕ
-pair_words random n = word_at 10 (key_of (kdf random (codes "kem") [])) 0 (n % 2 ^ 68)
+-- the words that the key pair is drawn from: those of the derived seed
+abbrev pub pair_words : List ℕ → Stream
+pair_words random = words_of_seed (kdf random (codes "kem") [])
 
 -- the LMS tree of a height that the member signs with (RFC 8554, section 5): I is the first 16 bytes of a derived key, and
 -- SEED is another derived key
@@ -52,9 +51,6 @@ module _ {K P : Type 0} (kem : Ghosts K P) where
   unfoldable pub card_bytes : ℕ → Origin → Option (List ℕ)
   card_bytes height origin = option_map spelling (card_of height origin)
 
-  -- The members of an encapsulation have cards at a height: it is set 1 with height 10, or set 2 with height 5 or 10, and its
-  -- public keys have the size that a card of the set has room for.
+  -- The members of an encapsulation have cards at a height: it is 10 with set 1, and 5 or 10 with set 2.
   pub record HasCards (height : ℕ) : Type 0 where
-    pub is_set : IsTrue ((kem.SET == 1) || (kem.SET == 2))
     pub is_height : IsTrue ((height == 10) || ((kem.SET == 2) && (height == 5)))
-    pub public_len : kem.PUBLIC_LEN ≡ key_size kem.SET

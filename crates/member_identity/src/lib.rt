@@ -2,8 +2,10 @@
 #![tactic(auto)]
 
 mod identity;
+mod laws;
 
 pub use identity::Identity;
+pub use laws::cards_have_room;
 
 #[cfg(test)]
 mod tests;

@@ -3,6 +3,7 @@ use crate::Identity;
 use group_fields::{Digest as Id, MemberId, read_card};
 use ntru_prime::{Drill37, Sntrup761};
 use sha2::{Digest, Sha256};
+use std::alloc::Global;
 use std::test::Fail;
 
 const RANDOM: [u8; 32] = [7; 32];
@@ -19,37 +20,40 @@ const CARD: &str = concat!(
 const HIGHER_KEY: &str =
     "0000000600000003484829a7d2d074a491a7d1fe254a4206e41a10cf4f666debf245d3924e87606a88c9876128657d4eda4580f2860a7474";
 
-#[test]
-fn a_card_of_the_smaller_set(rt: HostRuntime) -> Result<(), Fail> {
-    let inviter = MemberId(Id([0x1f; 32]));
-    let member = Identity::<Drill37>::make(rt.alloc(), inviter, &RANDOM)?;
-    let bytes = member.card(rt.alloc(), 5)?;
-    assert_eq!(rt; hex::encode(rt.alloc(), bytes.as_slice())?.as_str(), CARD);
+/// The digits of the smaller set's card at height 5, whose inviter has the id of 32 bytes of 1f.
+fn small_card(alloc: Global) -> Result<String, Fail> {
+    let member = Identity::<Drill37>::make(alloc, MemberId(Id([0x1f; 32])), &RANDOM)?;
+    let card = member.card(alloc, 5)?;
+    Ok(hex::encode(alloc, card.as_slice())?)
+}
+
+/// The digits of the LMS public key in the smaller set's card at height 10.
+fn higher_key(alloc: Global) -> Result<String, Fail> {
+    let member = Identity::<Drill37>::make(alloc, MemberId(Id([0; 32])), &RANDOM)?;
+    let bytes = member.card(alloc, 10)?;
     let card = read_card(bytes.as_slice())?;
-    assert_eq!(rt; card.set(), 2);
-    assert_eq!(rt; card.inviter(), inviter);
-    assert_eq!(rt; card.lms_public()[3], 5);
-    Ok(())
+    Ok(hex::encode(alloc, card.lms_public().as_slice())?)
+}
+
+/// The digits of the larger set's id, that of a member without inviter.
+fn large_id(alloc: Global) -> Result<String, Fail> {
+    let member = Identity::<Sntrup761>::make(alloc, MemberId(Id([0; 32])), &RANDOM)?;
+    let card = member.card(alloc, 10)?;
+    Ok(hex::encode(alloc, Sha256::digest(card.as_slice()).as_slice())?)
 }
 
 #[test]
-fn cards_at_height_ten(rt: HostRuntime) -> Result<(), Fail> {
-    let nobody = MemberId(Id([0; 32]));
-    let member = Identity::<Drill37>::make(rt.alloc(), nobody, &RANDOM)?;
-    let bytes = member.card(rt.alloc(), 10)?;
-    let card = read_card(bytes.as_slice())?;
-    assert_eq!(rt;
-        hex::encode(rt.alloc(), card.lms_public().as_slice())?.as_str(),
-        HIGHER_KEY
-    );
-    assert_eq!(rt; card.inviter(), nobody);
-
-    let member = Identity::<Sntrup761>::make(rt.alloc(), nobody, &RANDOM)?;
-    let bytes = member.card(rt.alloc(), 10)?;
-    assert_eq!(rt; bytes.len(), 1249);
-    assert_eq!(rt;
-        hex::encode(rt.alloc(), Sha256::digest(bytes.as_slice()).as_slice())?.as_str(),
-        "77195ebece4c8a96eb0a442fc7a7fab0d3fa5e9b3724fbed34f572c5662d0eb9"
-    );
+fn cards_are_those_of_another_program(rt: HostRuntime) -> Result<(), Fail> {
+    let rows = [
+        (small_card(rt.alloc())?, CARD),
+        (higher_key(rt.alloc())?, HIGHER_KEY),
+        (
+            large_id(rt.alloc())?,
+            "77195ebece4c8a96eb0a442fc7a7fab0d3fa5e9b3724fbed34f572c5662d0eb9",
+        ),
+    ];
+    for (card, wanted) in rows.iter() {
+        assert_eq!(rt; card.as_str(), *wanted);
+    }
     Ok(())
 }

@@ -9,7 +9,8 @@ use Rattle.std.proofs.lemmas.List.Folds.{flat_map-map}
 use Rattle.ntru_codec.specs.Mixed.{Spells, IsSpelling}
 use Rattle.ntru_codec.specs.Small.{coefficient_of, SpellsSmall}
 use Rattle.ntru_model.specs.Parameters.{Parameters}
-use Rattle.ntru_model.specs.Draws.{Stream, behind, small_coefficient, small_draw, marked, ascending, short_draw, bytes_draw, Invertible, first_invertible}
+use Rattle.kem_trait.specs.Streams.{Stream, behind}
+use Rattle.ntru_model.specs.Draws.{small_coefficient, small_draw, marked, ascending, short_draw, bytes_draw, Invertible, first_invertible}
 use Rattle.ntru_model.specs.Encodings.{mixed_read, small_read, public_read, rounded_read}
 use Rattle.ntru_model.proofs.Injective.{mixed_injective, small_injective}
 use Rattle.ntru_model.proofs.Readers.{mixed_read_is, mixed_read_none, small_read_is}

@@ -11,7 +11,8 @@ use Rattle.std.proofs.lemmas.List.Sums.{sum_by-cons}
 use Rattle.std.proofs.lemmas.List.Elements.{All-cons, All-head, All-tail, All-map, All-weaker}
 use Rattle.ring_laws.specs.Laws.{IsShort, is_nonzero}
 use Rattle.ntru_codec.specs.Small.{IsSmall, coefficient_of}
-use Rattle.ntru_model.specs.Draws.{Stream, behind, small_coefficient, small_draw, marked, inserted, ascending, short_draw, bytes_draw, Invertible, first_invertible}
+use Rattle.kem_trait.specs.Streams.{Stream, behind}
+use Rattle.ntru_model.specs.Draws.{small_coefficient, small_draw, marked, inserted, ascending, short_draw, bytes_draw, Invertible, first_invertible}
 use Rattle.ntru_model.proofs.Search.{some_same}
 use Rattle.ntru_model.proofs.Small.{coefficient_small, all_small_within}
 use Rattle.ntru_model.proofs.Sorting.{length-ascending}

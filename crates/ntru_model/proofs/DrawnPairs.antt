@@ -11,7 +11,8 @@ use Rattle.ring_laws.proofs.Inverses.{product_one}
 use Rattle.ntru_codec.specs.Small.{IsSmall}
 use Rattle.ntru_model.specs.Parameters.{Parameters, small_len}
 use Rattle.ntru_model.specs.Residues.{product_mod, inverse_mod}
-use Rattle.ntru_model.specs.Draws.{Stream, small_draw, short_draw, Invertible}
+use Rattle.kem_trait.specs.Streams.{Stream}
+use Rattle.ntru_model.specs.Draws.{small_draw, short_draw, Invertible}
 use Rattle.ntru_model.specs.Pairs.{KeyPair, g_of, tries, pair_drawn}
 use Rattle.ntru_model.proofs.Options.{and_then_parts, map_parts}
 use Rattle.ntru_model.proofs.Small.{all_small_within, all_centred_within}

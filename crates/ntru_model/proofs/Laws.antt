@@ -3,7 +3,7 @@ use Rattle.std.proofs.Common.{◌≡◌, ℕ, Some, List, length, All, ℤ, pos,
 use Rattle.ring_poly.specs.Ring.{IsCentred}
 use Rattle.kem_trait.specs.Encapsulated.{Encapsulated}
 use Rattle.ntru_model.specs.Parameters.{Parameters, IsKnown, public_len, secret_len}
-use Rattle.ntru_model.specs.Draws.{Stream}
+use Rattle.kem_trait.specs.Streams.{Stream}
 use Rattle.ntru_model.specs.Encodings.{public_encoding, public_read}
 use Rattle.ntru_model.specs.Pairs.{KeyPair, pair_drawn, public_key, secret_key, secret_read}
 use Rattle.ntru_model.specs.Encapsulation.{encapsulated, decapsulated_by}

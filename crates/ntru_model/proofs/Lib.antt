@@ -1,6 +1,5 @@
 pub mod Search
 pub mod Residues
-pub mod Streams
 pub mod Sorting
 pub mod Injective
 pub mod Inverses
@@ -17,3 +16,4 @@ pub mod Undone
 pub mod Computed
 pub mod Counts
 pub mod Laws
+pub mod Taken

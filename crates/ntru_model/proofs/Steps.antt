@@ -5,7 +5,8 @@ use Rattle.std.proofs.lemmas.Slice.Eq.{bytes_eq-Decides}
 use Rattle.ring_laws.specs.Laws.{multiple_of}
 use Rattle.ntru_model.specs.Parameters.{Parameters, small_len, public_len, core_len}
 use Rattle.ntru_model.specs.Residues.{product_mod, inverse_mod}
-use Rattle.ntru_model.specs.Draws.{Stream, small_draw, short_draw, bytes_draw, Invertible, first_invertible}
+use Rattle.kem_trait.specs.Streams.{Stream}
+use Rattle.ntru_model.specs.Draws.{small_draw, short_draw, bytes_draw, Invertible, first_invertible}
 use Rattle.ntru_model.specs.Encodings.{small_read, public_read, rounded_read}
 use Rattle.ntru_model.specs.Pairs.{KeyPair, secret_key, is_tested, fields_read, secret_read, tries, pair_drawn}
 use Rattle.ntru_model.specs.Encapsulation.{encapsulation, encapsulated, r_found, r_of, answer, decapsulated, decapsulated_by}

@@ -1,15 +1,9 @@
--- Polynomials and bytes drawn from a stream of words of 32 bits. A stream is a function: word n for each n from 0 on.
+-- Polynomials and bytes drawn from a stream of words of 32 bits.
 use Rattle.std.specs.Prelude.{ℕ, zero, suc, ◌+◌, ◌*◌, ◌/◌, ◌%◌, ◌^◌, Option, Some, None, List, [], ◌∷◌, map, take, ℤ, nat_lt, nat_le, if◌then◌else◌}
 use Rattle.std.specs.List.{flat_map, range_with_len}
 use Rattle.byteorder.specs.Endian.{little_bytes}
+use Rattle.kem_trait.specs.Streams.{Stream, behind}
 use Rattle.ntru_codec.specs.Small.{coefficient_of}
-
-abbrev pub Stream : Type 0
-Stream = ℕ → ℕ
-
--- the words behind the first n
-abbrev pub behind : ℕ → Stream → Stream
-behind n words = λ k. words (n + k)
 
 -- three times the low 30 bits, divided by 2 ^ 30: 0, 1 and 2 stand for -1, 0 and 1
 abbrev pub small_coefficient : ℕ → ℤ
@@ -53,4 +47,12 @@ first_invertible p zero draw invert words = None
 first_invertible p (suc tries) draw invert words = elim (invert (draw words)) [
   | Some inverse ↦ Some (record { drawn = draw words; inverse = inverse; left = behind p words })
   | None ↦ first_invertible p tries draw invert (behind p words)
+]
+
+-- how many words those draws take, with the failed ones
+unfoldable pub words_tried : ℕ → ℕ → (Stream → List ℤ) → (List ℤ → Option (List ℤ)) → Stream → ℕ
+words_tried p zero draw invert words = 0
+words_tried p (suc tries) draw invert words = elim (invert (draw words)) [
+  | Some inverse ↦ p
+  | None ↦ p + words_tried p tries draw invert (behind p words)
 ]

@@ -8,7 +8,8 @@ use Rattle.kem_trait.specs.Encapsulated.{Encapsulated}
 use Rattle.ntru_codec.specs.Small.{small_encoding}
 use Rattle.ntru_model.specs.Parameters.{Parameters, core_len}
 use Rattle.ntru_model.specs.Residues.{centred, product_mod, nearest_triple}
-use Rattle.ntru_model.specs.Draws.{Stream, short_draw}
+use Rattle.kem_trait.specs.Streams.{Stream}
+use Rattle.ntru_model.specs.Draws.{short_draw}
 use Rattle.ntru_model.specs.Encodings.{public_read, rounded_encoding, rounded_read}
 use Rattle.ntru_model.specs.Pairs.{KeyPair, hash, public_key, secret_read}
 

@@ -1,5 +1,5 @@
 -- Key pairs: what they are, how they are drawn, and their bytes.
-use Rattle.std.specs.Prelude.{ℕ, ◌+◌, Bool, ◌&&◌, ◌||◌, negsuc, Option, Some, None, List, ◌∷◌, ◌++◌, take, drop, ℤ, pos, nat_eq, if◌then◌else◌}
+use Rattle.std.specs.Prelude.{ℕ, ◌+◌, ◌/◌, Bool, ◌&&◌, ◌||◌, negsuc, Option, Some, None, List, ◌∷◌, ◌++◌, take, drop, ℤ, pos, nat_eq, if◌then◌else◌}
 use Rattle.std.specs.List.{count_by, list_all}
 use Rattle.std.specs.Option.{option_map, option_and_then}
 use Rattle.std.specs.Ordering.{int_eq}
@@ -10,7 +10,8 @@ use Rattle.ring_laws.specs.Laws.{multiple_of, is_nonzero}
 use Rattle.ntru_codec.specs.Small.{small_encoding}
 use Rattle.ntru_model.specs.Parameters.{Parameters, small_len, public_len}
 use Rattle.ntru_model.specs.Residues.{product_mod, inverse_mod}
-use Rattle.ntru_model.specs.Draws.{Stream, small_draw, short_draw, bytes_draw, first_invertible}
+use Rattle.kem_trait.specs.Streams.{Stream}
+use Rattle.ntru_model.specs.Draws.{Invertible, small_draw, short_draw, bytes_draw, first_invertible, words_tried}
 use Rattle.ntru_model.specs.Encodings.{public_encoding, public_read, small_read}
 
 -- the first 32 bytes of SHA-512 of a byte and these bytes
@@ -70,6 +71,14 @@ secret_read s bytes = option_and_then
 abbrev pub tries : ℕ
 tries = 16
 
+-- the first g that has an inverse modulo 3, and the first f for which 3 f has one modulo q
+abbrev pub g_drawn : Parameters → Stream → Option Invertible
+g_drawn s words = first_invertible s.p tries (small_draw s.p) (inverse_mod s.p 3) words
+
+abbrev pub f_drawn : Parameters → Stream → Option Invertible
+f_drawn s words =
+    first_invertible s.p tries (short_draw s.p s.w) (λ f. inverse_mod s.p s.q (multiple_of (pos 3) f)) words
+
 -- g is drawn until it has an inverse modulo 3, then f until 3 f has one modulo q, then rho
 unfoldable pub pair_drawn : Parameters → Stream → Option KeyPair
 pair_drawn s words =
@@ -80,5 +89,25 @@ pair_drawn s words =
       h = product_mod s.p s.q g.drawn f.inverse;
       rho = bytes_draw (small_len s) f.left;
     })
-    (first_invertible s.p tries (short_draw s.p s.w) (λ f. inverse_mod s.p s.q (multiple_of (pos 3) f)) g.left))
-    (first_invertible s.p tries (small_draw s.p) (inverse_mod s.p 3) words)
+    (f_drawn s g.left))
+    (g_drawn s words)
+
+-- how many words the draws of g take, and those of f
+abbrev pub g_words : Parameters → Stream → ℕ
+g_words s words = words_tried s.p tries (small_draw s.p) (inverse_mod s.p 3) words
+
+abbrev pub f_words : Parameters → Stream → ℕ
+f_words s words = words_tried s.p tries (short_draw s.p s.w) (λ f. inverse_mod s.p s.q (multiple_of (pos 3) f)) words
+
+-- how many words are taken behind those of f, where there is an f, and behind those of g, where there is a g
+abbrev pub words_behind_f : Parameters → Option Invertible → ℕ
+words_behind_f s None = 0
+words_behind_f s (Some f) = (small_len s + 3) / 4
+
+abbrev pub words_behind_g : Parameters → Option Invertible → ℕ
+words_behind_g s None = 0
+words_behind_g s (Some g) = f_words s g.left + words_behind_f s (f_drawn s g.left)
+
+-- how many words a pair takes, or the draws that give none
+unfoldable pub pair_words : Parameters → Stream → ℕ
+pair_words s words = g_words s words + words_behind_g s (g_drawn s words)

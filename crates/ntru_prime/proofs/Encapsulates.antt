@@ -4,7 +4,8 @@ use Rattle.std.specs.Option.{option_map}
 use Rattle.ring_poly.specs.Ring.{AreCongruent, AreRounded, IsCentred, product}
 use Rattle.ntru_codec.specs.Small.{small_encoding}
 use Rattle.ntru_model.specs.Parameters.{Parameters}
-use Rattle.ntru_model.specs.Draws.{Stream, short_draw}
+use Rattle.kem_trait.specs.Streams.{Stream}
+use Rattle.ntru_model.specs.Draws.{short_draw}
 use Rattle.ntru_model.specs.Residues.{nearest_triple, product_mod}
 use Rattle.ntru_model.specs.Encodings.{public_read, rounded_encoding}
 use Rattle.ntru_model.specs.Pairs.{hash}

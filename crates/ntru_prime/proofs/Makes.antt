@@ -1,5 +1,5 @@
 -- Pairs made from words, by the values that the code computes.
-use Rattle.std.proofs.Common.{◌≡◌, ap, ap₂, sym, subst, ◌∙◌, ℕ, Option, Some, None, List, length, All, ℤ, pos, unsigned_abs, arith, ◌≤◌, inl, inr}
+use Rattle.std.proofs.Common.{◌≡◌, ap, ap₂, sym, subst, ◌∙◌, ℕ, ◌+◌, ◌/◌, add-zero, Option, Some, None, List, length, All, ℤ, pos, unsigned_abs, arith, ◌≤◌, inl, inr}
 use Rattle.std.specs.Option.{option_map, option_and_then}
 use Rattle.std.proofs.lemmas.Int.{ints}
 use Rattle.std.proofs.lemmas.List.Elements.{All-weaker}
@@ -7,11 +7,13 @@ use Rattle.ring_poly.specs.Ring.{IsCentred}
 use Rattle.ring_laws.specs.Laws.{multiple_of}
 use Rattle.ntru_codec.specs.Small.{IsSmall}
 use Rattle.ntru_model.specs.Parameters.{Parameters, small_len}
-use Rattle.ntru_model.specs.Draws.{Stream, Invertible, first_invertible, small_draw, short_draw, bytes_draw}
+use Rattle.kem_trait.specs.Streams.{Stream, behind}
+use Rattle.ntru_model.specs.Draws.{Invertible, first_invertible, words_tried, small_draw, short_draw, bytes_draw}
 use Rattle.ntru_model.specs.Residues.{inverse_mod, product_mod}
-use Rattle.ntru_model.specs.Pairs.{pair_drawn, secret_key, secret_read}
+use Rattle.ntru_model.specs.Pairs.{pair_drawn, pair_words, secret_key, secret_read, words_behind_f, words_behind_g}
 use Rattle.ntru_model.proofs.Drawn.{first_gives, small_draw_small}
 use Rattle.ntru_model.proofs.DrawnPairs.{drawn_tested}
+use Rattle.kem_trait.proofs.StreamFacts.{behind-behind}
 use Rattle.ntru_model.proofs.Inverses.{from_inverse}
 use Rattle.ntru_model.proofs.Sets.{is_set}
 use Rattle.ntru_model.proofs.Tested.{IsTested, HasParts, read_back, secret_parts}
@@ -91,3 +93,42 @@ secret_same s f f' g g' h h' rho ef eg eh =
     ap (λ x. secret_key s (record { f = x; g_inverse = g; h = h; rho = rho })) ef
     ∙ ap (λ x. secret_key s (record { f = f'; g_inverse = x; h = h; rho = rho })) eg
     ∙ ap (λ x. secret_key s (record { f = f'; g_inverse = g'; h = x; rho = rho })) eh
+
+-- which words are left
+abbrev tries_of_g : ℕ → Stream → ℕ
+tries_of_g p words = words_tried p 16 (small_draw p) (inverse_mod p 3) words
+
+abbrev tries_of_f : ℕ → ℕ → ℕ → Stream → ℕ
+tries_of_f p m w words = words_tried p 16 (short_draw p w) (λ a. inverse_mod p m (multiple_of (pos 3) a)) words
+
+pub left_without_g : (p : ℕ) (q : ℤ) (w : ℕ) (words after : Stream) → first_of_g p words ≡ None → after ≡ behind (tries_of_g p words) words
+    → after ≡ behind (pair_words (set_of p q w) words) words
+unfolding pair_words
+left_without_g p q w words after none left =
+    left ∙ ap (λ n. behind n words) (sym (ap (λ o. tries_of_g p words + words_behind_g (set_of p q w) o) none ∙ add-zero (tries_of_g p words)))
+
+left_with_g : (p : ℕ) (q : ℤ) (w : ℕ) (words : Stream) (g : Invertible) (after : Stream) (count : ℕ) → first_of_g p words ≡ Some g
+    → g.left ≡ behind (tries_of_g p words) words
+    → tries_of_f p (unsigned_abs q) w g.left + words_behind_f (set_of p q w) (first_of_f p (unsigned_abs q) w g.left) ≡ count
+    → after ≡ behind count g.left → after ≡ behind (pair_words (set_of p q w) words) words
+unfolding pair_words
+left_with_g p q w words g after count eg left is_count is_after =
+    is_after ∙ ap (behind count) left ∙ behind-behind (tries_of_g p words) count words
+    ∙ ap (λ n. behind n words) (ap (λ n. tries_of_g p words + n) (sym is_count) ∙ sym (ap (λ o. tries_of_g p words + words_behind_g (set_of p q w) o) eg))
+
+pub left_without_f : (p : ℕ) (q : ℤ) (w : ℕ) (words : Stream) (g : Invertible) (after : Stream) → first_of_g p words ≡ Some g
+    → first_of_f p (unsigned_abs q) w g.left ≡ None → g.left ≡ behind (tries_of_g p words) words
+    → after ≡ behind (tries_of_f p (unsigned_abs q) w g.left) g.left → after ≡ behind (pair_words (set_of p q w) words) words
+left_without_f p q w words g after eg none left is_after =
+    left_with_g p q w words g after (tries_of_f p (unsigned_abs q) w g.left) eg left
+    (ap (λ o. tries_of_f p (unsigned_abs q) w g.left + words_behind_f (set_of p q w) o) none ∙ add-zero (tries_of_f p (unsigned_abs q) w g.left)) is_after
+
+pub left_of_pair : (p : ℕ) (q : ℤ) (w : ℕ) (words : Stream) (g f : Invertible) (after : Stream) → first_of_g p words ≡ Some g
+    → first_of_f p (unsigned_abs q) w g.left ≡ Some f → g.left ≡ behind (tries_of_g p words) words
+    → f.left ≡ behind (tries_of_f p (unsigned_abs q) w g.left) g.left → after ≡ behind ((small_len (set_of p q w) + 3) / 4) f.left
+    → after ≡ behind (pair_words (set_of p q w) words) words
+left_of_pair p q w words g f after eg ef left_g left_f is_after =
+    let of_f : ℕ = tries_of_f p (unsigned_abs q) w g.left in
+    let of_rho : ℕ = (small_len (set_of p q w) + 3) / 4 in
+    left_with_g p q w words g after (of_f + of_rho) eg left_g (ap (λ o. of_f + words_behind_f (set_of p q w) o) ef)
+    (is_after ∙ ap (behind of_rho) left_f ∙ behind-behind of_f of_rho g.left)

@@ -4,11 +4,13 @@ use Rattle.std.proofs.lemmas.List.Elements.{All-same}
 use Rattle.ring_poly.specs.Ring.{IsCentred}
 use Rattle.ring_solve.specs.declared.answer.Solved.{Solved}
 use Rattle.ring_solve.specs.Solutions.{Solves, coefficients_of}
-use Rattle.ntru_model.specs.Draws.{Stream, behind, first_invertible, Invertible, small_draw}
+use Rattle.kem_trait.specs.Streams.{Stream, behind}
+use Rattle.ntru_model.specs.Draws.{first_invertible, Invertible, small_draw, words_tried}
 use Rattle.ntru_model.specs.Residues.{inverse_mod}
 use Rattle.ntru_model.proofs.Computed.{first_none, first_here, first_later}
 use Rattle.ntru_model.proofs.Drawn.{small_draw_small}
 use Rattle.ntru_model.proofs.Inverses.{solved_inverse, inverse_of}
+use Rattle.ntru_model.proofs.Taken.{left_here, left_later, left_over}
 use Rattle.ntru_model.proofs.Small.{all_small_within, all_within_centred}
 use Rattle.ntru_prime.specs.Sets.{IsSet}
 use Rattle.ntru_prime.proofs.Sums.{to_natural}
@@ -49,3 +51,25 @@ pub tries_over : (p i : ℕ) (draw : Stream → List ℤ) (invert : List ℤ →
 tries_over p i draw invert words result le so =
     let step : 16 - i ≡ 0 = omega arith in
     so ∙ ap (λ n. first_invertible p n draw invert words) step ∙ first_none p draw invert words
+
+-- which words are left behind one more try
+pub left_by_later : (p i : ℕ) (draw : Stream → List ℤ) (invert : List ℤ → Option (List ℤ)) (words left : Stream) (a : List ℤ) (after : Stream) → i < 16
+    → left ≡ behind (words_tried p (16 - i) draw invert words) words → a ≡ draw words → after ≡ behind p words → invert a ≡ None
+    → left ≡ behind (words_tried p (16 - (i + 1)) draw invert after) after
+left_by_later p i draw invert words left a after lt so drawn passed none =
+    let step : 16 - i ≡ suc (16 - (i + 1)) = omega arith in
+    so ∙ ap (λ n. behind (words_tried p n draw invert words) words) step ∙ left_later p (16 - (i + 1)) draw invert words (ap invert (sym drawn) ∙ none)
+    ∙ ap (λ (w : Stream). behind (words_tried p (16 - (i + 1)) draw invert w) w) (sym passed)
+
+pub left_by_here : (p i : ℕ) (draw : Stream → List ℤ) (invert : List ℤ → Option (List ℤ)) (words left : Stream) (a b : List ℤ) (after : Stream) → i < 16
+    → left ≡ behind (words_tried p (16 - i) draw invert words) words → a ≡ draw words → after ≡ behind p words → invert a ≡ Some b
+    → after ≡ left
+left_by_here p i draw invert words left a b after lt so drawn passed some =
+    let step : 16 - i ≡ suc (16 - (i + 1)) = omega arith in
+    passed ∙ sym (so ∙ ap (λ n. behind (words_tried p n draw invert words) words) step ∙ left_here p (16 - (i + 1)) draw invert words b (ap invert (sym drawn) ∙ some))
+
+pub left_by_all : (p i : ℕ) (draw : Stream → List ℤ) (invert : List ℤ → Option (List ℤ)) (words left : Stream) → 16 ≤ i
+    → left ≡ behind (words_tried p (16 - i) draw invert words) words → words ≡ left
+left_by_all p i draw invert words left le so =
+    let step : 16 - i ≡ 0 = omega arith in
+    sym (so ∙ ap (λ n. behind (words_tried p n draw invert words) words) step ∙ left_over p draw invert words)

@@ -5,7 +5,8 @@ use Rattle.std.proofs.lemmas.List.Elements.{All-map, All-weaker, All-same}
 use Rattle.ring_poly.specs.Ring.{AreCongruent, IsCentred, product}
 use Rattle.ring_laws.specs.Laws.{multiple_of}
 use Rattle.ntru_codec.specs.Small.{IsSmall}
-use Rattle.ntru_model.specs.Draws.{Stream, short_draw}
+use Rattle.kem_trait.specs.Streams.{Stream}
+use Rattle.ntru_model.specs.Draws.{short_draw}
 use Rattle.ntru_model.specs.Residues.{product_mod}
 use Rattle.ntru_model.proofs.Residues.{product_mod_is}
 use Rattle.ntru_model.proofs.Small.{all_within_small}

@@ -2,7 +2,7 @@
 use Rattle.std.specs.Prelude.{ℕ, ◌+◌, Bool, Option, List, take, drop, is_some}
 use Rattle.std.specs.Option.{option_map}
 use Rattle.ntru_model.specs.Parameters.{Parameters, public_len, small_len}
-use Rattle.ntru_model.specs.Draws.{Stream}
+use Rattle.kem_trait.specs.Streams.{Stream}
 use Rattle.ntru_model.specs.Encodings.{public_read}
 use Rattle.ntru_model.specs.Pairs.{pair_drawn, secret_key, secret_read}
 

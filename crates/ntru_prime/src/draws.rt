@@ -4,7 +4,8 @@ ghost use Rattle.std.specs.Prelude.{◌≡◌, ◌≤◌, ◌<◌, ◌+◌, ◌*
 ghost use Rattle.std.specs.List.{flat_map};
 ghost use Rattle.byteorder.specs.Endian.{little_bytes};
 ghost use Rattle.ntru_codec.specs.Small.{coefficient_of};
-ghost use Rattle.ntru_model.specs.Draws.{behind, bytes_draw, marked, short_draw, small_coefficient, small_draw};
+ghost use Rattle.kem_trait.specs.Streams.{behind};
+ghost use Rattle.ntru_model.specs.Draws.{bytes_draw, marked, short_draw, small_coefficient, small_draw};
 
 use crate::blanks::{blank_bytes, blank_words};
 use byteorder::{ByteOrder, LittleEndian};
@@ -132,7 +133,8 @@ fn write_words(words: &[u32], into: &mut [u8])
 /// Draws bytes.
 pub(crate) fn draw_bytes<V: Words>(words: &mut V, into: &mut [u8])
     requires { length into.old ≤ 191 }
-    ensures { into.new ≡ bytes_draw (length into.old) (V.upcoming words.old) }
+    ensures drawn { into.new ≡ bytes_draw (length into.old) (V.upcoming words.old) }
+    ensures left { V.upcoming words.new ≡ behind ((length into.old + 3) / 4) (V.upcoming words.old) }
 {
     let count = (into.len() + 3) / 4;
     let mut drawn = blank_words::<RHO_WORDS>();

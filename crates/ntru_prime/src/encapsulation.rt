@@ -4,6 +4,7 @@ ghost use Rattle.std.specs.Prelude.{◌≡◌, ℕ, true, List, ℤ, Some, lengt
 ghost use Rattle.std.specs.List.{count_by};
 ghost use Rattle.ring_poly.specs.Ring.{IsCentred};
 ghost use Rattle.ntru_codec.specs.Small.{IsSmall, small_encoding};
+ghost use Rattle.kem_trait.specs.Streams.{behind};
 ghost use Rattle.ntru_model.specs.Parameters.{cipher_len};
 ghost use Rattle.ntru_model.specs.Residues.{nearest_triple, product_mod};
 ghost use Rattle.ntru_model.specs.Encodings.{rounded_encoding};
@@ -55,7 +56,9 @@ pub(crate) fn encap<const P: usize, const Q: i32, const W: usize, V: Words>(
     requires set { IsSet P Q W }
     requires public_ok { is_public (set_of P Q W) public.now ≡ true }
     requires room { length cipher.old ≡ cipher_len (set_of P Q W) }
-    ensures { encapsulated (set_of P Q W) public.now (V.upcoming words.old) ≡ Some (record { cipher = cipher.new; key = result }) }
+    ensures given { encapsulated (set_of P Q W) public.now (V.upcoming words.old)
+        ≡ Some (record { cipher = cipher.new; key = result }) }
+    ensures left { V.upcoming words.new ≡ behind P (V.upcoming words.old) }
 {
     let mut h = blank::<P>();
     if read_public::<P, Q, W>(public, &mut h).is_none() {

@@ -1,14 +1,16 @@
 // Pairs made from words.
 
-ghost use Rattle.std.specs.Prelude.{◌≡◌, ℕ, ◌≤◌, ◌<◌, List, ℤ, Some, None, length, All, IfOk, IsErrOf, pos, unsigned_abs};
+ghost use Rattle.std.specs.Prelude.{◌≡◌, ℕ, ◌≤◌, ◌<◌, List, ℤ, Some, None, length, All, IfOk, OnOk, IsErrOf, pos};
+ghost use Rattle.std.specs.Prelude.{unsigned_abs};
 ghost use Rattle.std.specs.Option.{option_map};
 ghost use Rattle.ring_poly.specs.Ring.{IsCentred};
 ghost use Rattle.ring_laws.specs.Laws.{multiple_of};
 ghost use Rattle.ntru_codec.specs.Small.{IsSmall};
 ghost use Rattle.ntru_model.specs.Parameters.{secret_len, small_len};
 ghost use Rattle.ntru_model.specs.Residues.{inverse_mod};
-ghost use Rattle.ntru_model.specs.Draws.{behind, first_invertible, short_draw, small_draw, bytes_draw};
-ghost use Rattle.ntru_model.specs.Pairs.{pair_drawn, secret_key};
+ghost use Rattle.kem_trait.specs.Streams.{behind};
+ghost use Rattle.ntru_model.specs.Draws.{first_invertible, words_tried, short_draw, small_draw, bytes_draw};
+ghost use Rattle.ntru_model.specs.Pairs.{pair_drawn, pair_words, secret_key};
 ghost use Rattle.ntru_prime.specs.Sets.{IsSet, set_of};
 ghost use Rattle.ntru_prime.specs.Keys.{made};
 
@@ -35,7 +37,10 @@ fn usable_small<const P: usize, V: Words>(
 ) -> Result<Option<Poly>, AllocError>
     requires size { (1 < P) × (P ≤ 761) }
     requires room { length g.old ≡ P }
-    ensures { IfOk result (λ answer. first_invertible P 16 (small_draw P) (inverse_mod P 3) (V.upcoming words.old) ≡ option_map (λ b. record { drawn = g.new; inverse = b; left = V.upcoming words.new }) answer) }
+    ensures found { IfOk result (λ answer. first_invertible P 16 (small_draw P) (inverse_mod P 3) (V.upcoming words.old)
+        ≡ option_map (λ b. record { drawn = g.new; inverse = b; left = V.upcoming words.new }) answer) }
+    ensures left { OnOk result (V.upcoming words.new
+        ≡ behind (words_tried P 16 (small_draw P) (inverse_mod P 3) (V.upcoming words.old)) (V.upcoming words.old)) }
 {
     for i in 0..TRIES {
         draw_small::<P, V>(words, g);
@@ -73,7 +78,11 @@ fn usable_short<const P: usize, const Q: i32, const W: usize, V: Words>(
 ) -> Result<Option<Poly>, AllocError>
     requires set { IsSet P Q W }
     requires room { length f.old ≡ P }
-    ensures { IfOk result (λ answer. first_invertible P 16 (short_draw P W) (λ a. inverse_mod P (unsigned_abs Q) (multiple_of (pos 3) a)) (V.upcoming words.old) ≡ option_map (λ b. record { drawn = f.new; inverse = b; left = V.upcoming words.new }) answer) }
+    ensures found { IfOk result (λ answer. first_invertible P 16 (short_draw P W)
+        (λ a. inverse_mod P (unsigned_abs Q) (multiple_of (pos 3) a)) (V.upcoming words.old)
+        ≡ option_map (λ b. record { drawn = f.new; inverse = b; left = V.upcoming words.new }) answer) }
+    ensures left { OnOk result (V.upcoming words.new ≡ behind (words_tried P 16 (short_draw P W)
+        (λ a. inverse_mod P (unsigned_abs Q) (multiple_of (pos 3) a)) (V.upcoming words.old)) (V.upcoming words.old)) }
 {
     for i in 0..TRIES {
         draw_short::<P, W, V>(words, f);
@@ -148,6 +157,10 @@ pub(crate) fn make<const P: usize, const Q: i32, const W: usize, V: Words>(
     requires set { IsSet P Q W }
     ensures pair { IfOk result (λ pair. made (set_of P Q W) (V.upcoming words.old) ≡ Some pair.secret.items) }
     ensures unusable { IsErrOf result KemRefusal.NoUsableKey → made (set_of P Q W) (V.upcoming words.old) ≡ None }
+    ensures left { OnOk result (V.upcoming words.new
+        ≡ behind (pair_words (set_of P Q W) (V.upcoming words.old)) (V.upcoming words.old)) }
+    ensures unusable_left { IsErrOf result KemRefusal.NoUsableKey → V.upcoming words.new
+        ≡ behind (pair_words (set_of P Q W) (V.upcoming words.old)) (V.upcoming words.old) }
 {
     let mut g = blank::<P>();
     let g_inverse = match usable_small::<P, V>(alloc, words, &mut g)? {

@@ -19,6 +19,7 @@ pub struct Drill37;
 
 impl Kem for Sntrup761 {
     ghost use Rattle.ntru_model.specs.Encapsulation.{decapsulated_by, encapsulated};
+    ghost use Rattle.ntru_model.specs.Pairs.{pair_words};
     ghost use Rattle.ntru_prime.specs.Keys.{is_public, is_secret, made, public_in};
     ghost use Rattle.ntru_prime.specs.PairKeys.{secret_of};
     ghost use Rattle.ntru_prime.specs.Lengths.{large_lengths};
@@ -44,6 +45,8 @@ impl Kem for Sntrup761 {
 
     ghost made = { made sntrup761 };
 
+    ghost pair_words = { pair_words sntrup761 };
+
     ghost is_secret = { is_secret sntrup761 };
 
     ghost public_in = { public_in sntrup761 };
@@ -52,9 +55,29 @@ impl Kem for Sntrup761 {
 
     ghost encapsulated = { encapsulated sntrup761 };
 
+    ghost cipher_words = { 761 };
+
     ghost decapsulated = { decapsulated_by sntrup761 };
 
     ghost secret_key = { secret_of };
+
+    ghost has_set_lengths = { inl (refl, refl, refl, refl) };
+
+    ghost pairs_are_tested = { λ pair. is_secret_from sntrup761 _ _ pair.tested };
+
+    ghost made_is_tested = { made_is_tested sntrup761 (inl refl) };
+
+    ghost public_is_public = { public_is_public sntrup761 (inl refl) };
+
+    ghost decapsulates = { decapsulates sntrup761 (inl refl) };
+
+    ghost secrets_have_length = { secrets_have_length large_lengths };
+
+    ghost publics_have_length = { publics_have_length large_lengths };
+
+    ghost encapsulates = { encapsulates sntrup761 };
+
+    ghost ciphers_have_length = { ciphers_have_length large_lengths };
 
     fn make<V: Words>(alloc: Global, words: &mut V) -> Result<TestedPair<761>, KemRefusal> {
         making::make::<761, 4591, 286, V>(alloc, words)
@@ -87,26 +110,11 @@ impl Kem for Sntrup761 {
     fn decap(pair: &TestedPair<761>, cipher: &[u8]) -> Option<[u8; 32]> {
         encapsulation::decap::<761, 4591, 286>(pair, cipher)
     }
-
-    ghost pairs_are_tested = { λ pair. is_secret_from sntrup761 _ _ pair.tested };
-
-    ghost made_is_tested = { made_is_tested sntrup761 (inl refl) };
-
-    ghost public_is_public = { public_is_public sntrup761 (inl refl) };
-
-    ghost decapsulates = { decapsulates sntrup761 (inl refl) };
-
-    ghost secrets_have_length = { secrets_have_length large_lengths };
-
-    ghost publics_have_length = { publics_have_length large_lengths };
-
-    ghost encapsulates = { encapsulates sntrup761 };
-
-    ghost ciphers_have_length = { ciphers_have_length large_lengths };
 }
 
 impl Kem for Drill37 {
     ghost use Rattle.ntru_model.specs.Encapsulation.{decapsulated_by, encapsulated};
+    ghost use Rattle.ntru_model.specs.Pairs.{pair_words};
     ghost use Rattle.ntru_prime.specs.Keys.{is_public, is_secret, made, public_in};
     ghost use Rattle.ntru_prime.specs.PairKeys.{secret_of};
     ghost use Rattle.ntru_prime.specs.Lengths.{little_lengths};
@@ -132,6 +140,8 @@ impl Kem for Drill37 {
 
     ghost made = { made drill37 };
 
+    ghost pair_words = { pair_words drill37 };
+
     ghost is_secret = { is_secret drill37 };
 
     ghost public_in = { public_in drill37 };
@@ -140,9 +150,29 @@ impl Kem for Drill37 {
 
     ghost encapsulated = { encapsulated drill37 };
 
+    ghost cipher_words = { 37 };
+
     ghost decapsulated = { decapsulated_by drill37 };
 
     ghost secret_key = { secret_of };
+
+    ghost has_set_lengths = { inr (refl, refl, refl, refl) };
+
+    ghost pairs_are_tested = { λ pair. is_secret_from drill37 _ _ pair.tested };
+
+    ghost made_is_tested = { made_is_tested drill37 (inr refl) };
+
+    ghost public_is_public = { public_is_public drill37 (inr refl) };
+
+    ghost decapsulates = { decapsulates drill37 (inr refl) };
+
+    ghost secrets_have_length = { secrets_have_length little_lengths };
+
+    ghost publics_have_length = { publics_have_length little_lengths };
+
+    ghost encapsulates = { encapsulates drill37 };
+
+    ghost ciphers_have_length = { ciphers_have_length little_lengths };
 
     fn make<V: Words>(alloc: Global, words: &mut V) -> Result<TestedPair<37>, KemRefusal> {
         making::make::<37, 127, 7, V>(alloc, words)
@@ -175,20 +205,4 @@ impl Kem for Drill37 {
     fn decap(pair: &TestedPair<37>, cipher: &[u8]) -> Option<[u8; 32]> {
         encapsulation::decap::<37, 127, 7>(pair, cipher)
     }
-
-    ghost pairs_are_tested = { λ pair. is_secret_from drill37 _ _ pair.tested };
-
-    ghost made_is_tested = { made_is_tested drill37 (inr refl) };
-
-    ghost public_is_public = { public_is_public drill37 (inr refl) };
-
-    ghost decapsulates = { decapsulates drill37 (inr refl) };
-
-    ghost secrets_have_length = { secrets_have_length little_lengths };
-
-    ghost publics_have_length = { publics_have_length little_lengths };
-
-    ghost encapsulates = { encapsulates drill37 };
-
-    ghost ciphers_have_length = { ciphers_have_length little_lengths };
 }

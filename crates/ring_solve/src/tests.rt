@@ -182,6 +182,14 @@ fn large_drawn(rt: HostRuntime) -> Result<(), Fail> {
         draw::<3>(seed, &mut a);
         assert!(rt; has_inverse::<761, 3>(&rt, &a, &mut product)?);
     }
+    // With a first coefficient of 0.
+    a[0] = 0;
+    recentred::<3>(&mut a);
+    assert!(rt; has_inverse::<761, 3>(&rt, &a, &mut product)?);
+    draw::<4591>(7, &mut a);
+    a[0] = 0;
+    recentred::<4591>(&mut a);
+    assert!(rt; has_inverse::<761, 4591>(&rt, &a, &mut product)?);
     Ok(())
 }
 

@@ -1,7 +1,7 @@
 use Rattle.std.proofs.Common.{ap}
 use Rattle.ntru_model.specs.Pairs.{pair_drawn}
 use Rattle.ntru_model.specs.Encapsulation.{encapsulated}
-use Rattle.ntru_model.proofs.Streams.{same_stream}
+use Rattle.kem_trait.proofs.StreamFacts.{same_stream}
 use Rattle.ntru_model.proofs.depends_on_words.Goals as goal
 
 pub returns-clause-pairs : goal.returns-clause-pairs

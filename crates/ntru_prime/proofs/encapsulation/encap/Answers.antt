@@ -17,8 +17,8 @@ write_cipher-requires-clause-h_centred g c =
 pub write_cipher-requires-clause-r_small : goal.write_cipher-requires-clause-r_small
 write_cipher-requires-clause-r_small g c = short_small c.requires.set _ c.draw_short.new.into c.draw_short.ensures.drawn
 
-pub returns : goal.returns
-returns g c =
+pub returns-clause-given : goal.returns-clause-given
+returns-clause-given g c =
     let read = read_some c.read_public.result c.read_public.new.h c.is_none.result _ c.is_none.ensures c.if-is_none.false c.read_public.ensures in
     encapsulated_by c.requires.set c.args.public.now (g.V.Words.upcoming c.args.words.now) c.read_public.new.h c.draw_short.new.into c.hash_of_small-digest.result c.hash_both-confirm.result c.write_cipher.new.into c.hash_both.result
     read c.draw_short.ensures.drawn c.hash_of_small-digest.ensures (c.hash_both-confirm.ensures ∙ ap (λ x. hash 2 (c.hash_of_small-digest.result ++ x)) c.hash.ensures) c.write_cipher.ensures c.hash_both.ensures

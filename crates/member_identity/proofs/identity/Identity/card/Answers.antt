@@ -1,10 +1,10 @@
 use Rattle.std.proofs.Common.{◌≡◌, List, ℕ, IsTrue, ◌==◌, ◌&&◌, ◌||◌, Some, sym, ◌∙◌, ap, subst}
 use Rattle.std.proofs.lemmas.Result.{IfOk-weaker}
 use Rattle.std.specs.Prelude.{IfOk}
-use Rattle.group_fields.specs.Cards.{Spells, key_size}
+use Rattle.group_fields.specs.Cards.{key_size, spelling}
 use Rattle.group_fields.specs.declared.card.Card.{Card}
 use Rattle.member_identity.specs.Identity.{Origin, card_bytes, card_with, signing_tree}
-use Rattle.member_identity.proofs.Spelled.{bytes_of_card, has_spelling, secret_is}
+use Rattle.member_identity.proofs.Spelled.{bytes_of_card, has_key_size, has_spelling, is_known_set, secret_is}
 use Rattle.member_identity.proofs.identity.Identity.card.Goals as goal
 
 pub write_card-requires : goal.write_card-requires
@@ -13,9 +13,9 @@ write_card-requires g c =
     let set : c.SET.result ≡ g.K.Kem.SET = c.SET.ensures in
     let tree = signing_tree c.args.height c.self.inside.random in
     has_spelling card c.args.height tree.id tree.seed
-    (subst (λ (s : ℕ). IsTrue ((s == 1) || (s == 2))) (sym set) c.requires.is_set)
+    (subst (λ (s : ℕ). IsTrue ((s == 1) || (s == 2))) (sym set) (is_known_set g.K.Kem.SET g.K.Kem.PUBLIC_LEN g.K.Kem.SECRET_LEN g.K.Kem.CIPHER_LEN g.K.Kem.has_set_lengths))
     (subst (λ (s : ℕ). IsTrue ((c.args.height == 10) || ((s == 2) && (c.args.height == 5)))) (sym set) c.requires.is_height)
-    c.in_ok-lms_public.ensures (c.in_ok-kem_public.ensures.size ∙ c.requires.public_len ∙ ap key_size (sym set))
+    c.in_ok-lms_public.ensures (c.in_ok-kem_public.ensures.size ∙ has_key_size g.K.Kem.SET g.K.Kem.PUBLIC_LEN g.K.Kem.SECRET_LEN g.K.Kem.CIPHER_LEN g.K.Kem.has_set_lengths ∙ ap key_size (sym set))
 
 pub returns : goal.returns
 returns g c =
@@ -25,5 +25,5 @@ returns g c =
     let same : card ≡ card_with g.K.Kem c.args.height origin secret =
     λ i. record { set = c.SET.ensures i; lms_public = c.in_ok-lms_public.ensures i; inviter = c.self.inside.inviter; kem_public = c.in_ok-kem_public.ensures.key i } in
     subst (λ (o : Origin). IfOk c.write_card.result (λ bytes. card_bytes g.K.Kem c.args.height o ≡ Some bytes)) c.self.view_is
-    (IfOk-weaker c.write_card.result (Spells card) (λ (bytes : List ℕ). card_bytes g.K.Kem c.args.height origin ≡ Some bytes)
-    (bytes_of_card g.K.Kem c.args.height origin secret card (secret_is g.K.Kem origin.random secret c.self.invariant) same) c.write_card.ensures)
+    (IfOk-weaker c.write_card.result (λ (bytes : List ℕ). bytes ≡ spelling card) (λ (bytes : List ℕ). card_bytes g.K.Kem c.args.height origin ≡ Some bytes)
+    (bytes_of_card g.K.Kem c.args.height origin secret card (secret_is g.K.Kem origin.random secret c.self.invariant) same) c.write_card.ensures.whole)
