@@ -7,18 +7,24 @@ use Rattle.group_model.specs.Sets.{Id, In, here, there, Bytes}
 use Rattle.group_model.specs.Messages.{Kind, Create, Update, Remove, Add, Ack, AddAck, Text, Message, History, past}
 use Rattle.group_model.specs.Membership.{InView}
 use Rattle.group_model.specs.KeyTerms.{bytes, secret, chain_after, first_chain, next_chain}
-use Rattle.group_model.specs.Steps.{Packet, Entry, Joined, Took, Made, packet_of, header_of, Log, hist, Setting, Given}
-use Rattle.group_model.specs.Knowledge.{learnt_at, prior_chain, chain_known}
-use Rattle.group_model.specs.SharedSecrets.{Turn, World, log_of, ratchet, answer_term, motion_of, chain_made, Moment, now, once}
-use Rattle.group_model.specs.Worlds.{IsLawful}
-use Rattle.group_model.proofs.ListFacts.{yes_is, no_is, test}
+use Rattle.group_model.specs.Packets.{Packet, Given}
+use Rattle.group_model.specs.Logs.{LogEntry, Joined, Took, Made, packet_of, header_of, Log, hist}
+use Rattle.group_model.specs.Settings.{Setting, card_of}
+use Rattle.group_model.specs.Knowledge.{prior_chain}
+use Rattle.group_model.specs.Worlds.{Turn, Turns, log_of, Moment, now, once}
+use Rattle.group_model.specs.SharedSecrets.{ratchet, answer_term, motion_of}
+use Rattle.group_model.specs.LawfulWorlds.{IsLawful}
+use Rattle.group_model.proofs.InSetting.{learnt_at, chain_known}
+use Rattle.group_model.proofs.ListFacts.{yes_is, no_is, test, same_id-true, other_id}
 use Rattle.group_model.proofs.Pasts.{past-within}
 use Rattle.group_model.proofs.Views.{LastOf, Hands, by_add, by_answer, first_view}
-use Rattle.group_model.proofs.Worlds.{own, apart, log_case, log-own, log-none, moment_now, good, lawful_at, header-stands, MadeIn, named_once, rooted_at, each_at}
-use Rattle.group_model.proofs.Latest.{same_id-true, other_id, moment_on, at_head, before_it, when, MakesNone, joins_only, takes_only, WhenMade, QuietMade, q_here, q_who, q_none, Plain, QuietIn, i_here, i_who, i_other, made_none, made_last, latest_made, row_unseen, none_in, rows_in, last_in, latest_in}
+use Rattle.group_model.proofs.Worlds.{own, apart, log_case, log-own, log-none, moment_now, good, lawful_at, header-stands, MadeIn, named_once, rooted_at, each_at, inside_at}
+use Rattle.group_model.proofs.Latest.{moment_on, at_head, before_it, when, MakesNone, joins_only, takes_only, WhenMade, QuietMade, q_here, q_who, q_none, Plain, QuietIn, i_here, i_who, i_other, made_none, made_last, latest_made, row_unseen, none_in, rows_in, last_in, latest_in}
 use Rattle.group_model.proofs.Agreement.{secret-bytes, and_then, Right, AllRight, SameMoment, one_moment, sender_is}
-use Rattle.group_model.proofs.Steps.{moment_under, sender_sees, lawful_under, MakerOf, maker_of, AllRight-before, cleaner, Cl, CM, cm_before, cm_of, cm_same, Pays, makes_it, see_forth, past_here, to_maker, out_hm, in_earlier, see_there, of_sender, is_last, none_later, last_of}
+use Rattle.group_model.proofs.Steps.{moment_under, sender_sees, lawful_under, MakerOf, maker_of, AllRight-before, cleaner, Cl, CM, cm_before, cm_of, cm_same, Pays, see_forth, past_here, to_maker, out_hm, in_earlier, see_there, of_sender, is_last, none_later, last_of}
 use Rattle.group_model.proofs.Moves.{view_at}
+use Rattle.group_model.proofs.Knowing.{chain-none as none_chain, chain-own as own_chain_known, chain-apart as apart_chain}
+use Rattle.group_model.proofs.MadeChains.{chain_made}
 
 -- the kind leaves the chain, or takes the next key of it
 abbrev pub Keeps : Kind → Type 0
@@ -45,50 +51,47 @@ chain_made-none : (G : Setting) → (s : Id) → chain_made G.primitives [] s �
 unfolding chain_made
 chain_made-none G s = refl
 
-chain_made-apart : (G : Setting) → (u : Turn) (w : World) (s : Id) → u.who ≢ s → chain_made G.primitives (u ∷ w) s ≡ chain_made G.primitives w s
+chain_made-apart : (G : Setting) → (u : Turn) (w : Turns) (s : Id) → u.who ≢ s → chain_made G.primitives (u ∷ w) s ≡ chain_made G.primitives w s
 unfolding chain_made
 chain_made-apart G u w s n = rw (other_id u.who s n) refl
 
-chain_made-kept : (G : Setting) → (x : Id) (e : Entry) (w : World) (s : Id) → MakesNone e → chain_made G.primitives (and_then x e w) s ≡ chain_made G.primitives w s
+chain_made-kept : (G : Setting) → (x : Id) (e : LogEntry) (w : Turns) (s : Id) → MakesNone e → chain_made G.primitives (and_then x e w) s ≡ chain_made G.primitives w s
 unfolding chain_made
 chain_made-kept G x (Joined p) w s joins_only = elim (test (bytes_eq x s)) [ yes_is e ↦ rw e refl | no_is e ↦ rw e refl ]
 chain_made-kept G x (Made p t) w s n = elim n [ ]
 chain_made-kept G x (Took p) w s takes_only = elim (test (bytes_eq x s)) [ yes_is e ↦ rw e refl | no_is e ↦ rw e refl ]
 
-chain_made-own : (G : Setting) → (s : Id) (p : Packet) (t : Given) (u : World) → chain_made G.primitives (and_then s (Made p t) u) s ≡ chain_after G.primitives p.header.kind (option_map (bytes G.primitives) (secret (motion_of G.primitives p.header.kind s t (λ i. answer_term G.primitives u i s)) (ratchet G.primitives u s))) (chain_made G.primitives u s)
+chain_made-own : (G : Setting) → (s : Id) (p : Packet) (t : Given) (u : Turns) → chain_made G.primitives (and_then s (Made p t) u) s ≡ chain_after G.primitives p.header.kind (option_map (bytes G.primitives) (secret (motion_of G.primitives p.header.kind s t (λ i. answer_term G.primitives u i s)) (ratchet G.primitives u s))) (chain_made G.primitives u s)
 unfolding chain_made
 chain_made-own G s p t u = rw (same_id-true s) refl
 
-chain-quiet_made : (G : Setting) → {s : Id} {from w : World} → QuietMade s from w → chain_made G.primitives w s ≡ chain_made G.primitives from s
+chain-quiet_made : (G : Setting) → {s : Id} {from w : Turns} → QuietMade s from w → chain_made G.primitives w s ≡ chain_made G.primitives from s
 chain-quiet_made G q_here = refl
 chain-quiet_made G {s = s} (q_who {u = u} {w = w} n q) = chain_made-apart G u w s n ∙ chain-quiet_made G q
 chain-quiet_made G {s = s} (q_none {u = u} {w = w} n q) = chain_made-kept G u.who u.entry w s n ∙ chain-quiet_made G q
 
 module _ (G : Setting) where
-  abbrev Law : World → Type 0
+  abbrev Law : Turns → Type 0
   Law = IsLawful G
 
-  abbrev H : World → Id → History
+  abbrev H : Turns → Id → History
   H w x = hist (log_of w x)
 
   chain_known-none : (x s : Id) → chain_known G x [] s ≡ None
-  unfolding chain_known
-  chain_known-none x s = refl
+  chain_known-none x s = none_chain G.primitives (card_of G x) x s
 
-  chain_known-apart : (x : Id) (e : Entry) (l : Log) (s : Id) → (header_of e).sender ≢ s → chain_known G x (e ∷ l) s ≡ prior_chain e (chain_known G x l s)
-  unfolding chain_known
-  chain_known-apart x e l s n = rw (other_id (header_of e).sender s n) refl
+  chain_known-apart : (x : Id) (e : LogEntry) (l : Log) (s : Id) → (header_of e).sender ≢ s → chain_known G x (e ∷ l) s ≡ prior_chain e (chain_known G x l s)
+  chain_known-apart x e l s n = apart_chain G.primitives (card_of G x) x e l s n
 
-  chain_known-own : (x : Id) (e : Entry) (l : Log) → chain_known G x (e ∷ l) (header_of e).sender ≡ chain_after G.primitives (header_of e).kind (learnt_at G x e l) (prior_chain e (chain_known G x l (header_of e).sender))
-  unfolding chain_known
-  chain_known-own x e l = rw (same_id-true (header_of e).sender) refl
+  chain_known-own : (x : Id) (e : LogEntry) (l : Log) → chain_known G x (e ∷ l) (header_of e).sender ≡ chain_after G.primitives (header_of e).kind (learnt_at G x e l) (prior_chain e (chain_known G x l (header_of e).sender))
+  chain_known-own x e l = own_chain_known G.primitives (card_of G x) x e l (header_of e).sender refl
 
-  plain_prior : (e : Entry) (k : Option Bytes) → Plain e → prior_chain e k ≡ k
+  plain_prior : (e : LogEntry) (k : Option Bytes) → Plain e → prior_chain e k ≡ k
   plain_prior (Joined p) k n = elim n [ ]
   plain_prior (Took p) k n = refl
   plain_prior (Made p t) k n = refl
 
-  chain-quiet_in : {x s : Id} {from w : World} → QuietIn x s from w → chain_known G x (log_of w x) s ≡ chain_known G x (log_of from x) s
+  chain-quiet_in : {x s : Id} {from w : Turns} → QuietIn x s from w → chain_known G x (log_of w x) s ≡ chain_known G x (log_of from x) s
   chain-quiet_in i_here = refl
   chain-quiet_in {x = x} {s = s} (i_who {u = u} {w = w} n q) = elim (log_case u w x) [
     | apart m f ↦ ap (λ z. chain_known G x z s) f ∙ chain-quiet_in q
@@ -106,20 +109,20 @@ module _ (G : Setting) where
   chain-alone x (Made p t ∷ l) s f = chain_known-apart x (Made p t) l s (f p.header here) ∙ chain-alone x l s (λ a i. f a (there i))
 
   -- the chain that is known after a message is that of its maker
-  pub record RightChain (x : Id) (e : Entry) (v : World) : Type 0 where
-    pub chain_is : (t : Given) (u : World) → Moment (and_then x e v) (header_of e).sender (Made (packet_of e) t) u → CM G (header_of e).sender (packet_of e) t u → InView G.rule (H (and_then x e v) x) (header_of e) x
+  pub record RightChain (x : Id) (e : LogEntry) (v : Turns) : Type 0 where
+    pub chain_is : (t : Given) (u : Turns) → Moment (and_then x e v) (header_of e).sender (Made (packet_of e) t) u → CM G (header_of e).sender (packet_of e) t u → InView G.rule (H (and_then x e v) x) (header_of e) x
         → chain_known G x (log_of (and_then x e v) x) (header_of e).sender ≡ chain_made G.primitives (and_then (header_of e).sender (Made (packet_of e) t) u) (header_of e).sender
 
-  pub record AllChain (w : World) : Type 0 where
-    pub right : (x : Id) (e : Entry) (v : World) → Moment w x e v → RightChain x e v
+  pub record AllChain (w : Turns) : Type 0 where
+    pub right : (x : Id) (e : LogEntry) (v : Turns) → Moment w x e v → RightChain x e v
 
-  learnt_right : {x : Id} {e : Entry} {v : World} → Right G x e v → (t : Given) (u : World) → Moment (and_then x e v) (header_of e).sender (Made (packet_of e) t) u → CM G (header_of e).sender (packet_of e) t u → InView G.rule (H (and_then x e v) x) (header_of e) x
+  learnt_right : {x : Id} {e : LogEntry} {v : Turns} → Right G x e v → (t : Given) (u : Turns) → Moment (and_then x e v) (header_of e).sender (Made (packet_of e) t) u → CM G (header_of e).sender (packet_of e) t u → InView G.rule (H (and_then x e v) x) (header_of e) x
       → learnt_at G x e (log_of v x) ≡ option_map (bytes G.primitives) (secret (motion_of G.primitives (header_of e).kind (header_of e).sender t (λ i. answer_term G.primitives u i (header_of e).sender)) (ratchet G.primitives u (header_of e).sender))
   learnt_right {x} {e} {v} r t u m cl see = rw (r.motion_is t u m cl see, r.before_is t u m cl see)
       (secret-bytes G (motion_of G.primitives (header_of e).kind (header_of e).sender t (λ i. answer_term G.primitives u i (header_of e).sender)) (ratchet G.primitives u (header_of e).sender))
 
   -- from the chain before the message
-  chain_from : {x : Id} {e : Entry} {v : World} → Right G x e v → ((t : Given) (u : World) → Moment (and_then x e v) (header_of e).sender (Made (packet_of e) t) u → CM G (header_of e).sender (packet_of e) t u → InView G.rule (H (and_then x e v) x) (header_of e) x
+  chain_from : {x : Id} {e : LogEntry} {v : Turns} → Right G x e v → ((t : Given) (u : Turns) → Moment (and_then x e v) (header_of e).sender (Made (packet_of e) t) u → CM G (header_of e).sender (packet_of e) t u → InView G.rule (H (and_then x e v) x) (header_of e) x
       → Keeps (header_of e).kind → prior_chain e (chain_known G x (log_of v x) (header_of e).sender) ≡ chain_made G.primitives u (header_of e).sender) → RightChain x e v
   chain_from {x} {e} {v} r f = record {
     chain_is = λ t u m cl see.
@@ -128,13 +131,13 @@ module _ (G : Setting) where
         ∙ sym (chain_made-own G (header_of e).sender (packet_of e) t u);
   }
 
-  AllChain-before : {u : Turn} {w : World} → AllChain (u ∷ w) → AllChain w
+  AllChain-before : {u : Turn} {w : Turns} → AllChain (u ∷ w) → AllChain w
   AllChain-before a = record { right = λ x e v m. a.right x e v (once m) }
 
-  pub AllChain-at : {w v : World} {x : Id} {e : Entry} → AllChain w → Moment w x e v → AllChain v
+  pub AllChain-at : {w v : Turns} {x : Id} {e : LogEntry} → AllChain w → Moment w x e v → AllChain v
   AllChain-at a m = record { right = λ y f u k. a.right y f u (moment_on m k) }
 
-  own_case : (x : Id) (e : Entry) (w : World) → Law (and_then x e w) → AllChain (and_then x e w) → Cl G (and_then x e w) x → chain_known G x (log_of w x) x ≡ chain_made G.primitives w x
+  own_case : (x : Id) (e : LogEntry) (w : Turns) → Law (and_then x e w) → AllChain (and_then x e w) → Cl G (and_then x e w) x → chain_known G x (log_of w x) x ≡ chain_made G.primitives w x
       → chain_known G x (log_of (and_then x e w) x) x ≡ chain_made G.primitives (and_then x e w) x
   own_case x (Made p t) w l a cl ih =
       let s : p.header.sender ≡ x = l.0.sender in
@@ -150,7 +153,7 @@ module _ (G : Setting) where
       ap (λ z. chain_known G x z x) (log-own x (Joined p) w) ∙ chain_known-apart x (Joined p) (log_of w x) x l.0.0.other
       ∙ sym (chain_known-none x x) ∙ ap (λ z. chain_known G x z x) (sym l.0.0.fresh) ∙ ih ∙ sym (chain_made-kept G x (Joined p) w x joins_only)
 
-  pub own_chain : (w : World) → Law w → AllChain w → (s : Id) → Cl G w s → chain_known G s (log_of w s) s ≡ chain_made G.primitives w s
+  pub own_chain : (w : Turns) → Law w → AllChain w → (s : Id) → Cl G w s → chain_known G s (log_of w s) s ≡ chain_made G.primitives w s
   own_chain [] l a s cl = ap (λ z. chain_known G s z s) (log-none s) ∙ chain_known-none s s ∙ sym (chain_made-none G s)
   own_chain (u ∷ w) l a s cl = elim (log_case u w s) [
     | apart n q ↦ ap (λ z. chain_known G s z s) q ∙ own_chain w l.2 (AllChain-before a) s (cleaner G u w l s cl) ∙ sym (chain_made-apart G u w s n)
@@ -163,7 +166,7 @@ module _ (G : Setting) where
   hands_moves (by_add e) k = subst Keeps e k
   hands_moves (by_answer o i e a) k = subst Keeps e k
 
-  module _ (x : Id) (p : Packet) (w : World) (l : Law (and_then x (Took p) w)) (right : AllRight G w) (chains : AllChain w) (pay : Pays G w x p) (t : Given) (u : World) (k : Moment w p.header.sender (Made p t) u) (cl : CM G p.header.sender p t u)
+  module _ (x : Id) (p : Packet) (w : Turns) (l : Law (and_then x (Took p) w)) (right : AllRight G w) (chains : AllChain w) (pay : Pays G w x p) (t : Given) (u : Turns) (k : Moment w p.header.sender (Made p t) u) (cl : CM G p.header.sender p t u)
       (see : InView G.rule (H (and_then x (Took p) w) x) p.header x) where
     lw : Law u
     lw = (lawful_at G l.2 k).1
@@ -171,11 +174,11 @@ module _ (G : Setting) where
     clu : Cl G u p.header.sender
     clu = cm_before G l.2 k cl
 
-    chain_entry : (q : Packet) (r : Given) (v : World) → Moment u p.header.sender (Made q r) v → InView G.rule (H (and_then x (Took p) w) x) q.header x
-        → (f : Entry) (b : World) → Moment w x f b → header_of f ≡ q.header → chain_known G x (log_of (and_then x f b) x) p.header.sender ≡ chain_made G.primitives (and_then p.header.sender (Made q r) v) p.header.sender
+    chain_entry : (q : Packet) (r : Given) (v : Turns) → Moment u p.header.sender (Made q r) v → InView G.rule (H (and_then x (Took p) w) x) q.header x
+        → (f : LogEntry) (b : Turns) → Moment w x f b → header_of f ≡ q.header → chain_known G x (log_of (and_then x f b) x) p.header.sender ≡ chain_made G.primitives (and_then p.header.sender (Made q r) v) p.header.sender
     chain_entry q r v n seen f b mf d =
         let sd : (header_of f).sender ≡ p.header.sender = ap (λ (z : Message). z.sender) d ∙ sender_is G n lw in
-        let mk : MakerOf G x f b = maker_of G x f b (lawful_at G l.2 mf).0 (subst (λ z. In z G.members) (sym sd) (makes_it G x p (Took p) refl w l t u k).inside) in
+        let mk : MakerOf G x f b = maker_of G x f b (lawful_at G l.2 mf).0 (subst (λ z. In z G.members) (sym sd) (inside_at G l.2 k)) in
         let old : Moment w p.header.sender (Made (packet_of f) mk.given) mk.world = subst (λ z. Moment w z (Made (packet_of f) mk.given) mk.world) sd (moment_under mf mk.moment) in
         let same : SameMoment G (packet_of f) q mk.given r mk.world v = one_moment G old (moment_on k n) l.2 d in
         let view : InView G.rule (H (and_then x f b) x) (header_of f) x = view_at G l (once mf) (subst (λ z. InView G.rule (H (and_then x (Took p) w) x) z x) (sym d) seen) in
@@ -218,7 +221,7 @@ module _ (G : Setting) where
           ]
     ]
 
-  step : (x : Id) (e : Entry) (w : World) → Law (and_then x e w) → AllRight G w → Right G x e w → AllChain w → Pays G w x (packet_of e) → RightChain x e w
+  step : (x : Id) (e : LogEntry) (w : Turns) → Law (and_then x e w) → AllRight G w → Right G x e w → AllChain w → Pays G w x (packet_of e) → RightChain x e w
   step x (Took p) w l right r chains pay = chain_from r (λ t u m cl see keeps. prior_right x p w l right chains pay t u (WhenMade takes_only m) cl see keeps)
   step x (Joined p) w l right r chains pay = chain_from r (λ t u m cl see keeps. absurd (subst Keeps l.0.0.adds keeps))
   step x (Made p t) w l right r chains pay =
@@ -228,7 +231,7 @@ module _ (G : Setting) where
       subst (λ z. chain_known G x (log_of w x) z ≡ chain_made G.primitives w z) (sym l.0.sender) (own_chain w l.2 chains x (cleaner G _ w l x (cm_same G same (sym l.0.sender) cl)))
       ∙ ap (λ z. chain_made G.primitives z p.header.sender) same.worlds)
 
-  pub all_chain : (w : World) → Law w → AllRight G w → ((x : Id) (e : Entry) (v : World) → Moment w x e v → Pays G v x (packet_of e)) → AllChain w
+  pub all_chain : (w : Turns) → Law w → AllRight G w → ((x : Id) (e : LogEntry) (v : Turns) → Moment w x e v → Pays G v x (packet_of e)) → AllChain w
   all_chain [] l a pay = record { right = λ x e v m. elim m [ ] }
   all_chain (u ∷ w) l a pay =
       let ih : AllChain w = all_chain w l.2 (AllRight-before G a) (λ x e v m. pay x e v (once m)) in

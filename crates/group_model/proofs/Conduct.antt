@@ -1,37 +1,24 @@
--- What a member makes that answers at once is valid.
-use Rattle.std.proofs.Common.{◌≡◌, ◌≢◌, ◌+◌, inl, inr, List, [], ◌∷◌, Option, Some, None, refl, sym, ◌∙◌, subst, ap, ◌++◌, true, false}
-use Rattle.group_model.specs.Sets.{Bytes, Id, In, here, there, has}
-use Rattle.group_model.specs.Messages.{Kind, Create, Update, Remove, Add, Ack, AddAck, Text, Message, History, past, Stands, IsHistory}
-use Rattle.group_model.specs.Membership.{Names, Named}
+-- What a member makes that answers at once is valid, and a member knows its own ratchet.
+use Rattle.std.proofs.Common.{◌≡◌, ◌+◌, inl, inr, List, [], ◌∷◌, Option, Some, None, refl, sym, ◌∙◌, subst, ap, true, false}
+use Rattle.group_model.specs.Sets.{Bytes, Id, In}
+use Rattle.group_model.specs.Messages.{Kind, Create, Update, Remove, Add, Ack, AddAck, Text, Message, History, past, Stands}
+use Rattle.group_model.specs.Primitives.{Primitives}
 use Rattle.group_model.specs.Validity.{IsOperation, Answers, AnswersOne, AnswersNone, IsInTurn, MeetsKind, GoesOn, count_of}
-use Rattle.group_model.specs.Steps.{Setting, Packet, Given, Entry, Joined, Took, Made, Log, hist}
+use Rattle.group_model.specs.Settings.{Owner, owner_in}
+use Rattle.group_model.specs.Packets.{Packet, Given}
+use Rattle.group_model.specs.Logs.{LogEntry, Joined, Took, Made, Log, hist}
 use Rattle.group_model.specs.KeyTerms.{empty_ratchet, seed_of, turned_known}
-use Rattle.group_model.specs.Knowledge.{known, answer_known, motion_known}
-use Rattle.group_model.specs.SharedSecrets.{World, log_of}
-use Rattle.group_model.specs.Worlds.{Joins, MayLeave, IsLawful}
-use Rattle.group_model.specs.Conduct.{asks, waiting, Follows, AnswersAtOnce, MadeIsValid, OwnRatchetKnown}
-use Rattle.group_model.proofs.ListFacts.{yes_is, no_is, test, In-cases, In-nothing}
-use Rattle.group_model.proofs.Pasts.{past-taken, past-left, past-none, past-within, heads-lead_back}
-use Rattle.group_model.proofs.Valids.{valid-from, each-valid}
-use Rattle.group_model.proofs.Worlds.{own, apart, log_case, log-none, Good, good}
-use Rattle.group_model.proofs.Latest.{known-none, known-apart, known-own, known_rows-none}
+use Rattle.group_model.specs.Knowledge.{answer_known, motion_known}
+use Rattle.group_model.specs.LawfulLogs.{MakesPacket, TakesPacket, MayEnter, IsLawfulLog}
+use Rattle.group_model.specs.Worlds.{log_of}
+use Rattle.group_model.specs.Conduct.{asks, waiting, Follows, AnswersAtOnce, MadeIsValid, MadeIsValidInWorlds, OwnRatchetKnown, OwnRatchetKnownInWorlds}
+use Rattle.group_model.proofs.ListFacts.{In-nothing}
+use Rattle.group_model.proofs.Pasts.{past-within, past-all, heads-lead_back}
+use Rattle.group_model.proofs.Valids.{each-valid}
+use Rattle.group_model.proofs.Knowing.{known-none, known-apart, known-own, known_rows-none}
+use Rattle.group_model.proofs.LogLaws.{Kept, log_kept, rows-alone}
+use Rattle.group_model.proofs.Worlds.{lawful_log}
 use Rattle.group_model.proofs.Settled.{AnswersStand, settled_more, takes_one, answer_settles, joins_one}
-
--- a past that has the whole history is the history
-pub past-all : (h : History) → IsHistory h → (w : List Id) → ((a : Message) → In a h → In a (past h w)) → past h w ≡ h
-past-all [] g w f = past-none w
-past-all (m ∷ older) g w f = elim (test (has w m.id)) [
-  | no_is e ↦ absurd (g.1 (record {
-    by = m;
-    has_id = refl;
-    there_is = past-within older w (subst (λ z. In m z) (past-left m older w e) (f m here));
-  }))
-  | yes_is e ↦ past-taken m older w e ∙ ap (λ z. m ∷ z) (past-all older g.2 (m.predecessors ++ w) (λ a i.
-      elim (In-cases (subst (λ z. In a z) (past-taken m older w e) (f a (there i)))) [
-        | inl d ↦ absurd (g.1 (record { by = a; there_is = i; has_id = ap (λ (z : Message). z.id) d }))
-        | inr j ↦ j
-      ]))
-]
 
 -- where a member stands
 abbrev Stand : Option Id → History → Id → Type 0
@@ -49,11 +36,11 @@ asks-stand m h x (Ack o took) f g = g (λ i. i)
 asks-stand m h x (AddAck o) f g = g (λ i. i)
 asks-stand m h x Text f g = g (λ i. i)
 
-module _ (G : Setting) where
+module _ (O : Owner) where
   -- an answer of a valid history answers what stands in it
-  answers-stand : (h : History) → Good G h → AnswersStand h
+  pub answers-stand : (h : History) → Kept O h → AnswersStand h
   answers-stand h g = record {
-    stands_too = λ a i j n. elim (each-valid G.rule G.inviter h g.history g.valid j) [
+    stands_too = λ a i j n. elim (each-valid O.rule O.inviter h g.history g.valid j) [
       | inl o ↦ absurd (subst (λ k. Answers k i) o.creates n)
       | inr v ↦ by a.predecessors a.sender i a.kind v.in_turn n
     ];
@@ -71,52 +58,28 @@ module _ (G : Setting) where
       by p s i (AddAck o) t n = subst (λ z. Stands h z) n (found p s t)
       by p s i Text t n = absurd n
 
-  -- no row of a welcome is of who joins
-  rows-alone : (x : Id) (l : Log) (p : Packet) → Joins G x l p → (a : Message) → In a p.rows → a.sender ≢ x
-  rows-alone x l p j a i e =
-      let in_rows : Named p.rows x = elim (each-valid G.rule G.inviter p.rows j.history.2 j.all_valid i) [
-        | inl o ↦ record { by = a; there_is = i; names = subst (λ k. Names k x) (sym o.creates) (subst (λ z. In z o.members) e o.among) }
-        | inr v ↦ subst (λ z. Named p.rows z) e
-            (record { by = v.named.by; names = v.named.names; there_is = past-within p.rows a.predecessors v.named.there_is })
-      ] in
-      let suits : MeetsKind G.rule G.inviter (past p.rows p.header.predecessors) p.header.sender (Add x) =
-      elim (valid-from G.rule G.inviter p.rows p.header j.valid) [
-        | inl o ↦ (let f : Add x ≡ Create o.members = sym j.adds ∙ o.creates in cc)
-        | inr v ↦ subst (λ k. MeetsKind G.rule G.inviter (past p.rows p.header.predecessors) p.header.sender k) j.adds v.suits
-      ] in
-      suits.0 (record {
-        by = in_rows.by;
-        names = in_rows.names;
-        there_is = heads-lead_back p.rows j.history.2 p.header.predecessors j.heads in_rows.there_is;
-      })
+  made_settles : (l : Log) (p : Packet) (t : Given) → MakesPacket O l p t → (o : Option Id) → Stand o (hist l) O.id → Follows o (Made p t)
+      → AnswersNone (p.header ∷ hist l) O.id
+  made_settles l p t f None s k = settled_more p.header (hist l) f.history O.id s (λ op n. n f.sender)
+  made_settles l p t f (Some i) s k = answer_settles p.header (hist l) f.history O.id i s f.sender k
 
-  settled : (w : World) → IsLawful G w → (x : Id) → AnswersAtOnce (log_of w x) → Stand (waiting (log_of w x)) (hist (log_of w x)) x
-  settled [] l x a = subst (λ z. Stand (waiting z) (hist z) x) (sym (log-none x)) (λ o u. In-nothing u.there_is)
-  settled (u ∷ w) l x a = elim (log_case u w x) [
-    | apart n q ↦ subst (λ z. Stand (waiting z) (hist z) x) (sym q) (settled w l.2 x (subst AnswersAtOnce q a))
-    | own n q ↦ subst (λ z. Stand (waiting z) (hist z) x) (sym q)
-        (let b : AnswersAtOnce (u.entry ∷ log_of w x) = subst AnswersAtOnce q a in
-        by u.entry (subst (λ z. MayLeave G w z u.entry) n l.0) (waiting (log_of w x)) (settled w l.2 x b.1) b.0)
-  ]
-    where
-      made : (p : Packet) (t : Given) → MayLeave G w x (Made p t) → (o : Option Id) → Stand o (hist (log_of w x)) x → Follows o (Made p t)
-          → AnswersNone (p.header ∷ hist (log_of w x)) x
-      made p t f None s k = settled_more p.header (hist (log_of w x)) f.history x s (λ op n. n f.sender)
-      made p t f (Some i) s k = answer_settles p.header (hist (log_of w x)) f.history x i s f.sender k
+  took_settles : (l : Log) (p : Packet) → Kept O (hist l) → TakesPacket O l p → (o : Option Id) → Stand o (hist l) O.id → Follows o (Took p)
+      → Stand (asks p.header.kind p.header.id) (p.header ∷ hist l) O.id
+  took_settles l p g f None s k = asks-stand p.header (p.header ∷ hist l) O.id p.header.kind
+      (λ op. takes_one p.header (hist l) f.history O.id s (answers-stand (hist l) g) op f.other)
+      (λ n. settled_more p.header (hist l) f.history O.id s (λ op d. n op))
+  took_settles l p g f (Some i) s k = absurd k
 
-      took : (p : Packet) → MayLeave G w x (Took p) → (o : Option Id) → Stand o (hist (log_of w x)) x → Follows o (Took p)
-          → Stand (asks p.header.kind p.header.id) (p.header ∷ hist (log_of w x)) x
-      took p f None s k = asks-stand p.header (p.header ∷ hist (log_of w x)) x p.header.kind
-          (λ op. takes_one p.header (hist (log_of w x)) f.0.history x s (answers-stand (hist (log_of w x)) (good G w l.2 x)) op f.0.other)
-          (λ n. settled_more p.header (hist (log_of w x)) f.0.history x s (λ op d. n op))
-      took p f (Some i) s k = absurd k
+  entry_settles : (l : Log) (e : LogEntry) → Kept O (hist l) → MayEnter O l e → (o : Option Id) → Stand o (hist l) O.id → Follows o e
+      → Stand (waiting (e ∷ l)) (hist (e ∷ l)) O.id
+  entry_settles l (Made p t) g f o s k = made_settles l p t f o s k
+  entry_settles l (Took p) g f o s k = took_settles l p g f o s k
+  entry_settles l (Joined p) g f o s k = joins_one p.header p.rows f.history O.id f.adds f.other
+      (λ a i. heads-lead_back p.rows f.history.2 p.header.predecessors f.heads i) (rows-alone O l p f)
 
-      by : (e : Entry) → MayLeave G w x e → (o : Option Id) → Stand o (hist (log_of w x)) x → Follows o e
-          → Stand (waiting (e ∷ log_of w x)) (hist (e ∷ log_of w x)) x
-      by (Made p t) f o s k = made p t f o s k
-      by (Took p) f o s k = took p f o s k
-      by (Joined p) f o s k = joins_one p.header p.rows f.0.history x f.0.adds f.0.other
-          (λ a i. heads-lead_back p.rows f.0.history.2 p.header.predecessors f.0.heads i) (rows-alone x (log_of w x) p f.0)
+  settled : (l : Log) → IsLawfulLog O l → AnswersAtOnce l → Stand (waiting l) (hist l) O.id
+  settled [] f a = λ o u. In-nothing u.there_is
+  settled (e ∷ l) f a = entry_settles l e (log_kept O l f.1) f.0 (waiting l) (settled l f.1 a.1) a.0
 
   in_turn : (h : History) (x : Id) (k : Kind) (p : Packet) (t : Given) → p.header.kind ≡ k → (o : Option Id) → Stand o h x
       → Follows o (Made p t) → IsInTurn h x k
@@ -136,68 +99,56 @@ module _ (G : Setting) where
   in_turn h x Text p t e (Some i) s f = absurd (subst (λ k. Answers k i) e f)
 
 pub made_is_valid : MadeIsValid
-made_is_valid G w x p t l a f m =
-    let h : History = hist (log_of w x) in
-    let g : Good G h = good G w l x in
-    let s : x ≡ p.header.sender = sym m.sender in
-    let turn : IsInTurn h x p.header.kind = in_turn G h x p.header.kind p t refl (waiting (log_of w x)) (settled G w l x a) f in
-    subst (λ z. GoesOn G.rule G.inviter z p.header)
+made_is_valid O l p t f a k m =
+    let h : History = hist l in
+    let g : Kept O h = log_kept O l f in
+    let s : O.id ≡ p.header.sender = sym m.sender in
+    let turn : IsInTurn h O.id p.header.kind = in_turn O h O.id p.header.kind p t refl (waiting l) (settled O l f a) k in
+    subst (λ z. GoesOn O.rule O.inviter z p.header)
     (sym (past-all h g.history p.header.predecessors (λ b i. heads-lead_back h g.history p.header.predecessors m.heads i)))
     (record {
-      named = G.is_rule.named h p.header.sender (subst (λ z. In z (G.rule h)) s m.member);
-      member = subst (λ z. In z (G.rule h)) s m.member;
+      named = O.is_rule.named h p.header.sender (subst (λ z. In z (O.rule h)) s m.member);
+      member = subst (λ z. In z (O.rule h)) s m.member;
       next = m.number ∙ ap (λ z. count_of z h + 1) s;
-      suits = subst (λ z. MeetsKind G.rule G.inviter h z p.header.kind) s m.suits;
+      suits = subst (λ z. MeetsKind O.rule O.inviter h z p.header.kind) s m.suits;
       in_turn = subst (λ z. IsInTurn h z p.header.kind) s turn;
       heads = m.heads;
     })
 
+pub made_is_valid_in_worlds : MadeIsValidInWorlds
+made_is_valid_in_worlds G w x p t l a k m = made_is_valid (owner_in G x) (log_of w x) p t (lawful_log G w l x) a k m
+
 -- a message whose input is known moves what is known of the ratchet
-moves-known : (G : Setting) (k : Kind) (s : Id) (seed : Bytes) (answer : Id → Option Bytes) (r : Bytes)
+moves-known : (K : Primitives) (k : Kind) (s : Id) (seed : Bytes) (answer : Id → Option Bytes) (r : Bytes)
     → ((i : Id) → k ≡ Ack i true → (v : Bytes) × (answer i ≡ Some v))
-    → (b : Bytes) × (turned_known G.primitives (motion_known G k s (Some seed) answer) (Some r) ≡ Some b)
-moves-known G (Create members) s seed answer r f = (_, refl)
-moves-known G Update s seed answer r f = (_, refl)
-moves-known G (Remove y) s seed answer r f = (_, refl)
-moves-known G (Add y) s seed answer r f = (_, refl)
-moves-known G (Ack i true) s seed answer r f = let v = f i refl in
-    (G.primitives.next r v.0, rw v.1 refl)
-moves-known G (Ack i false) s seed answer r f = (r, refl)
-moves-known G (AddAck i) s seed answer r f = (_, refl)
-moves-known G Text s seed answer r f = (r, refl)
-
--- what a member knows of its own ratchet
-record Owns (G : Setting) (x : Id) (l : Log) : Type 0 where
-  ratchet : Bytes
-  is : known G x l x ≡ Some ratchet
-
-module _ (G : Setting) where
-  owns-more : (w : World) → IsLawful G w → (x : Id) (e : Entry) → MayLeave G w x e → Owns G x (log_of w x) → Owns G x (e ∷ log_of w x)
-  owns-more w l x (Joined p) f o = record {
-    ratchet = empty_ratchet;
-    is = known-apart G x (Joined p) (log_of w x) x f.0.other
-        ∙ known_rows-none G p.rows x (rows-alone G x (log_of w x) p f.0);
-  }
-  owns-more w l x (Took p) f o = record {
-    ratchet = o.ratchet;
-    is = known-apart G x (Took p) (log_of w x) x f.0.other ∙ o.is;
-  }
-  owns-more w l x (Made p t) f o =
-      let m = moves-known G p.header.kind x (seed_of G.primitives t.random) (λ i. answer_known G x (log_of w x) i x None) o.ratchet f.took in
-      record {
-        ratchet = m.0;
-        is = known-own G x (Made p t) (log_of w x) x f.sender
-            ∙ ap (λ z. turned_known G.primitives (motion_known G p.header.kind x (Some (seed_of G.primitives t.random))
-            (λ i. answer_known G x (log_of w x) i x None)) z) o.is ∙ m.1;
-      }
-
-  owns : (w : World) → IsLawful G w → (x : Id) → Owns G x (log_of w x)
-  owns [] l x = subst (λ z. Owns G x z) (sym (log-none x)) (record { ratchet = empty_ratchet; is = known-none G x x })
-  owns (u ∷ w) l x = elim (log_case u w x) [
-    | apart n q ↦ subst (λ z. Owns G x z) (sym q) (owns w l.2 x)
-    | own n q ↦ subst (λ z. Owns G x z) (sym q)
-        (owns-more w l.2 x u.entry (subst (λ z. MayLeave G w z u.entry) n l.0) (owns w l.2 x))
-  ]
+    → (b : Bytes) × (turned_known K (motion_known K k s (Some seed) answer) (Some r) ≡ Some b)
+moves-known K (Create members) s seed answer r f = (_, refl)
+moves-known K Update s seed answer r f = (_, refl)
+moves-known K (Remove y) s seed answer r f = (_, refl)
+moves-known K (Add y) s seed answer r f = (_, refl)
+moves-known K (Ack i true) s seed answer r f = let v = f i refl in
+    (K.next r v.0, rw v.1 refl)
+moves-known K (Ack i false) s seed answer r f = (r, refl)
+moves-known K (AddAck i) s seed answer r f = (_, refl)
+moves-known K Text s seed answer r f = (r, refl)
 
 pub own_ratchet_known : OwnRatchetKnown
-own_ratchet_known G w x l = let o = owns G w l x in (o.ratchet, o.is)
+own_ratchet_known O [] f = (empty_ratchet, known-none O.primitives O.card O.id O.id)
+own_ratchet_known O (Joined p ∷ l) f = (
+  empty_ratchet,
+  known-apart O.primitives O.card O.id (Joined p) l O.id f.0.other ∙ known_rows-none p.rows O.id (rows-alone O l p f.0),
+)
+own_ratchet_known O (Took p ∷ l) f = let o = own_ratchet_known O l f.1 in
+    (o.0, known-apart O.primitives O.card O.id (Took p) l O.id f.0.other ∙ o.1)
+own_ratchet_known O (Made p t ∷ l) f =
+    let o = own_ratchet_known O l f.1 in
+    let m = moves-known O.primitives p.header.kind O.id (seed_of O.primitives t.random)
+    (λ i. answer_known O.primitives O.card O.id l i O.id None) o.0 f.0.took in (
+      m.0,
+      known-own O.primitives O.card O.id (Made p t) l O.id f.0.sender
+          ∙ ap (λ z. turned_known O.primitives (motion_known O.primitives p.header.kind O.id (Some (seed_of O.primitives t.random))
+          (λ i. answer_known O.primitives O.card O.id l i O.id None)) z) o.1 ∙ m.1,
+    )
+
+pub own_ratchet_known_in_worlds : OwnRatchetKnownInWorlds
+own_ratchet_known_in_worlds G w x l = own_ratchet_known (owner_in G x) (log_of w x) (lawful_log G w l x)

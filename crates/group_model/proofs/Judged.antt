@@ -356,7 +356,7 @@ module _ (rule : History → List Id) where
   is_addressee h m (AddAck i) y = is_handed h i m y
   is_addressee h m Text y = false
 
-  says-addressee : (h : History) (m : Message) (k : Kind) (y : Id) → Says (is_addressee h m k y) (IsAddressee rule h m k y)
+  pub says-addressee : (h : History) (m : Message) (k : Kind) (y : Id) → Says (is_addressee h m k y) (IsAddressee rule h m k y)
   says-addressee h m (Create members) y = says-recipient h m y
   says-addressee h m Update y = says-recipient h m y
   says-addressee h m (Remove z) y = says-recipient h m y

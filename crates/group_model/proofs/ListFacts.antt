@@ -1,4 +1,4 @@
-use Rattle.std.proofs.Common.{◌≡◌, ℕ, zero, suc, ◌<◌, Bool, true, false, ◌⊎◌, inl, inr, List, [], ◌∷◌, ◌++◌, refl, sym, subst, length, get_or, arith, Contains}
+use Rattle.std.proofs.Common.{◌≡◌, ◌≢◌, ℕ, zero, suc, ◌<◌, Bool, true, false, ◌⊎◌, inl, inr, List, [], ◌∷◌, ◌++◌, refl, sym, subst, length, get_or, arith, Contains}
 use Rattle.std.specs.Str.{bytes_eq}
 use Rattle.std.proofs.lemmas.Slice.Eq.{bytes_eq-Decides}
 use Rattle.group_model.specs.Sets.{Id, In, here, there, has}
@@ -62,3 +62,12 @@ In-from_Contains {A} xs x h = at xs h.0 h.1 h.2
 pub Contains-from_In : {A : Type 0} {x : A} {xs : List A} → In x xs → Contains xs x
 Contains-from_In here = (0, omega arith, refl)
 Contains-from_In {x = x} (there {y = y} {xs = xs} h) = let r = Contains-from_In h in (suc r.0, omega (arith, r.1), r.2)
+
+pub same_id-true : (a : Id) → bytes_eq a a ≡ true
+same_id-true a = (bytes_eq-Decides a a).1 refl
+
+pub other_id : (a b : Id) → a ≢ b → bytes_eq a b ≡ false
+other_id a b n = elim (test (bytes_eq a b)) [ yes_is e ↦ absurd (n ((bytes_eq-Decides a b).0 e)) | no_is e ↦ e ]
+
+pub equal_id : (a b : Id) → a ≡ b → bytes_eq a b ≡ true
+equal_id a b e = (bytes_eq-Decides a b).1 e

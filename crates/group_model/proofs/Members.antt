@@ -6,19 +6,22 @@ use Rattle.group_model.specs.Messages.{History, past}
 use Rattle.group_model.specs.Membership.{remove_wins}
 use Rattle.group_model.specs.KeyTerms.{empty_ratchet, welcome_word, add_word, seed_of, member_secret, first_chain, next_chain, message_key}
 use Rattle.group_model.specs.Pairing.{own_key, drop_by, draws}
-use Rattle.group_model.specs.Steps.{Setting, Given, hist}
-use Rattle.group_model.specs.Knowledge.{events, learnt_of, text_of}
-use Rattle.group_model.specs.SharedSecrets.{World, log_of}
+use Rattle.group_model.specs.Settings.{Setting}
+use Rattle.group_model.specs.Packets.{Given}
+use Rattle.group_model.specs.Logs.{hist}
+use Rattle.group_model.specs.Worlds.{Turns, log_of}
 use Rattle.group_model.specs.Examples.{ada, bob, cyd, numbered, creation, creation_acked, update, addition, addition_acked, handed, forwarded, update_acked, question, answer, history_of_ada, history_of_bob, history_of_cyd, ThreeMembers}
 use Rattle.group_model.proofs.RemoveWins.{remove_wins-rule}
 use Rattle.group_model.proofs.Says.{both, opposite, both-true, says-same, says-not}
 use Rattle.group_model.proofs.Judged.{message_eq, same-message_eq}
 use Rattle.group_model.proofs.Quick.{quick, quick_answer, quick_learnt, quick_learnt_of, quick_learnt_of-known, quick_chain, quick_text_of, quick_text_of-known}
-use Rattle.group_model.proofs.Play.{Event, Makes_it, Takes_it, Joins_by, can_make, can_take, can_join, step, play, world_of, played-lawful, is_entitled, entitled-where, there_is, value_of, value-there, at_once, at_once-where}
-use Rattle.group_model.specs.Worlds.{IsLawful}
+use Rattle.group_model.proofs.Play.{PlayEvent, Makes_it, Takes_it, Joins_by, can_make, can_take, can_join, step, play, world_of, played-lawful, is_entitled, entitled-where, there_is, value_of, value-there, at_once, at_once-where}
+use Rattle.group_model.specs.LawfulWorlds.{IsLawful}
 use Rattle.group_model.specs.Agreement.{MadeBy}
+use Rattle.group_model.proofs.InSetting.{learnt_of, text_of}
 use Rattle.group_model.proofs.Theorem.{agreement_between, text_agreement}
 use Rattle.group_model.proofs.Toy.{toy, public_of}
+use Rattle.group_model.specs.Knowledge.{events}
 
 -- each card's secret key is the id with a number more
 abbrev pub secret_of : Id → Bytes
@@ -48,7 +51,7 @@ abbrev pub says : ℕ → Bytes → Given
 says n text = record { random = n ∷ []; text = text }
 
 -- the play, the newest event first
-abbrev pub script : List Event
+abbrev pub script : List PlayEvent
 script =
     Takes_it cyd (numbered 19) ∷ Takes_it bob (numbered 19) ∷ Makes_it answer [] (says 109 (codes "hi"))
     ∷ Takes_it bob (numbered 18) ∷ Takes_it ada (numbered 18) ∷ Makes_it question [] (says 108 (codes "hello"))
@@ -63,7 +66,7 @@ script =
     ∷ Takes_it ada (numbered 11) ∷ Makes_it creation_acked [] (drawn 101)
     ∷ Takes_it bob (numbered 10) ∷ Makes_it creation (bob ∷ []) (drawn 100) ∷ []
 
-unfoldable pub the_world : World
+unfoldable pub the_world : Turns
 the_world = world_of setting (play setting script)
 
 abbrev pub history_eq : History → History → Bool
@@ -79,30 +82,30 @@ same-history (a ∷ h) [] e = cc
 same-history (a ∷ h) (b ∷ k) e = let p = both-true (message_eq a b) (history_eq h k) e in
     let f = same-message_eq a b p.0 in let g = same-history h k p.1 in cc
 
-abbrev pub all_at_once : World → Bool
+abbrev pub all_at_once : Turns → Bool
 all_at_once w = both (at_once (log_of w ada)) (both (at_once (log_of w bob)) (at_once (log_of w cyd)))
 
 -- what the world is judged by: the members' histories, who is entitled to what, and what the makers of two messages learnt and
 -- a reader of a text read
-abbrev have_histories : World → Bool
+abbrev have_histories : Turns → Bool
 have_histories w = both (history_eq (hist (log_of w ada)) history_of_ada)
     (both (history_eq (hist (log_of w bob)) history_of_bob) (history_eq (hist (log_of w cyd)) history_of_cyd))
 
-abbrev are_entitled : World → Bool
+abbrev are_entitled : Turns → Bool
 are_entitled w = both (is_entitled setting w ada forwarded) (both (is_entitled setting w bob forwarded) (both (is_entitled setting w cyd forwarded)
     (both (is_entitled setting w ada handed) (both (is_entitled setting w cyd handed)
     (both (is_entitled setting w ada question) (is_entitled setting w bob question))))))
 
-abbrev forwarded_learnt : World → Option Bytes
+abbrev forwarded_learnt : Turns → Option Bytes
 forwarded_learnt w = quick_learnt_of setting bob (log_of w bob) forwarded
 
-abbrev handed_learnt : World → Option Bytes
+abbrev handed_learnt : Turns → Option Bytes
 handed_learnt w = quick_learnt_of setting ada (log_of w ada) handed
 
-abbrev question_read : World → Option Bytes
+abbrev question_read : Turns → Option Bytes
 question_read w = quick_text_of setting ada (log_of w ada) question
 
-abbrev know_enough : World → Bool
+abbrev know_enough : Turns → Bool
 know_enough w = both (there_is (forwarded_learnt w)) (both (there_is (handed_learnt w))
     (both (opposite (bytes_eq (value_of (forwarded_learnt w)) (value_of (handed_learnt w))))
     (both (there_is (question_read w)) (bytes_eq (value_of (question_read w)) (codes "hello")))))

@@ -5,25 +5,28 @@ use Rattle.group_model.specs.Sets.{Id, In, here, there, Bytes}
 use Rattle.group_model.specs.Messages.{Kind, Create, Update, Remove, Add, Ack, AddAck, Text, Message, History, past, IsHistory, with_past}
 use Rattle.group_model.specs.Membership.{IsSeeded, InView, IsRecipient, IsForwardedTo}
 use Rattle.group_model.specs.Validity.{IsOperation, Answers, AnswersOne, IsInTurn, MeetsKind}
-use Rattle.group_model.specs.KeyTerms.{Term, bytes, seed_of, motion_bytes}
-use Rattle.group_model.specs.Steps.{Packet, Entry, Joined, Took, Made, packet_of, header_of, Log, hist, part_for, Setting, Given}
-use Rattle.group_model.specs.Knowledge.{events, payload, payload_in, or_else, answer_by, known, known_rows, motion_known, seed_known, answer_known}
-use Rattle.group_model.specs.Packets.{IsDue}
-use Rattle.group_model.specs.SharedSecrets.{Turn, World, log_of, ratchet, answer_term, answer_term_by, motion_of, Moment, now, once}
-use Rattle.group_model.specs.Worlds.{WasMade, Makes, MayLeave, IsLawful}
+use Rattle.group_model.specs.KeyTerms.{Term, bytes, seed_of}
+use Rattle.group_model.specs.Packets.{Packet, part_for, Given}
+use Rattle.group_model.specs.Logs.{LogEntry, Joined, Took, Made, packet_of, header_of, Log, hist}
+use Rattle.group_model.specs.Settings.{Setting, card_of}
+use Rattle.group_model.specs.Knowledge.{payload_in, or_else, answer_by, known_rows, motion_known}
+use Rattle.group_model.specs.Worlds.{Turn, Turns, log_of, Moment, now, once}
+use Rattle.group_model.specs.SharedSecrets.{ratchet, answer_term, answer_term_by, motion_of}
+use Rattle.group_model.specs.LawfulWorlds.{WasMade, MayLeave, IsLawful}
+use Rattle.group_model.proofs.InSetting.{events, payload, known, seed_known, answer_known, IsDue, Makes}
 use Rattle.group_model.proofs.ListFacts.{In-nothing}
 use Rattle.group_model.proofs.Pasts.{past-within, same-message, past-history}
 use Rattle.group_model.proofs.Valids.{past-self, past-older, each-valid}
 use Rattle.group_model.proofs.Views.{member_or_not, by_add, answer_of_add}
-use Rattle.group_model.proofs.Worlds.{log-own, moment_now, Good, good, hist-more, lawful_at, header-stands, MadeIn, inside, named_once, rooted_at, each_at}
+use Rattle.group_model.proofs.Worlds.{log-own, moment_now, Good, good, hist-more, lawful_at, header-stands, MadeIn, inside, named_once, rooted_at, each_at, inside_at}
 use Rattle.group_model.proofs.Latest.{moment_on, at_head, before_it, when, joins_only, takes_only, WhenMade, distinct_at, row_unseen}
-use Rattle.group_model.proofs.Agreement.{and_then, view_moved, Right, AllRight, SameMoment, one_moment, as_entry, as_row, stood, from_one, from_none, answer_of, sender_is, answer_term-at}
+use Rattle.group_model.proofs.Agreement.{and_then, view_moved, Right, AllRight, SameMoment, one_moment, as_entry, as_row, stood, from_one, from_none, answer_of, sender_is, answer_term-at, motion_bytes}
 use Rattle.group_model.proofs.Parts.{gives, gives_none, present, PartFor, only_due}
 use Rattle.group_model.proofs.Steps.{moment_under, sender_sees, hist_under, lawful_under, MakerOf, maker_of, AllRight-at, own_known, cleaner, Cl, CM, cm_before, cm_of, cm_same, RowsClean, Pays, handed_now, makes_it, read_here, see_back, see_forth, past_there, to_maker, deep_hm, took_before, in_earlier, rc}
 
 -- what the entry of an operation gives to its answers
 answer_by-right : (G : Setting) (k : Kind) (s : Id) (seed prior forward : Option Bytes) (t : Given) (r : Term) → IsOperation k → (IsSeeded k → seed ≡ Some (seed_of G.primitives t.random)) → prior ≡ Some (bytes G.primitives r)
-    → answer_by G k s seed prior forward ≡ Some (bytes G.primitives (answer_term_by G.primitives k t r s))
+    → answer_by G.primitives k s seed prior forward ≡ Some (bytes G.primitives (answer_term_by G.primitives k t r s))
 answer_by-right G (Create members) s seed prior forward t r o f e = rw (f tt) refl
 answer_by-right G Update s seed prior forward t r o f e = rw (f tt) refl
 answer_by-right G (Remove y) s seed prior forward t r o f e = rw (f tt) refl
@@ -32,7 +35,7 @@ answer_by-right G (Ack i took) s seed prior forward t r o f e = absurd o
 answer_by-right G (AddAck i) s seed prior forward t r o f e = absurd o
 answer_by-right G Text s seed prior forward t r o f e = absurd o
 
-answer_by-forward : (G : Setting) (k : Kind) (s : Id) (seed prior forward : Option Bytes) → IsSeeded k → seed ≡ None → answer_by G k s seed prior forward ≡ forward
+answer_by-forward : (G : Setting) (k : Kind) (s : Id) (seed prior forward : Option Bytes) → IsSeeded k → seed ≡ None → answer_by G.primitives k s seed prior forward ≡ forward
 answer_by-forward G (Create members) s seed prior forward o e = rw e refl
 answer_by-forward G Update s seed prior forward o e = rw e refl
 answer_by-forward G (Remove y) s seed prior forward o e = rw e refl
@@ -51,35 +54,35 @@ seeded_operation (AddAck i) s = s
 seeded_operation Text s = s
 
 module _ (G : Setting) where
-  abbrev Law : World → Type 0
+  abbrev Law : Turns → Type 0
   Law = IsLawful G
 
-  abbrev H : World → Id → History
+  abbrev H : Turns → Id → History
   H w x = hist (log_of w x)
 
   -- the view of an entry's message, then and now
-  pub view_at : {w b : World} {x : Id} {f : Entry} → Law w → Moment w x f b → InView G.rule (H w x) (header_of f) x → InView G.rule (H (and_then x f b) x) (header_of f) x
+  pub view_at : {w b : Turns} {x : Id} {f : LogEntry} → Law w → Moment w x f b → InView G.rule (H w x) (header_of f) x → InView G.rule (H (and_then x f b) x) (header_of f) x
   view_at {w} {b} {x} {f} l m v = view_moved G (H w x) (H (and_then x f b) x) (good G w l x).history (good G (and_then x f b) (lawful_under G l m) x).history
       (record { same = λ y z i j g. (distinct_at G w l).same x x y z i (hist_under G l m x j) g })
       (record { same = λ y z i j g. (distinct_at G w l).same x x y z (hist_under G l m x i) j g })
       (header-stands G {e = f} l m) (header-stands G {e = f} (lawful_under G l m) now) v
 
-  view_since : {w b : World} {x : Id} {f : Entry} → Law w → Moment w x f b → InView G.rule (H (and_then x f b) x) (header_of f) x → InView G.rule (H w x) (header_of f) x
+  view_since : {w b : Turns} {x : Id} {f : LogEntry} → Law w → Moment w x f b → InView G.rule (H (and_then x f b) x) (header_of f) x → InView G.rule (H w x) (header_of f) x
   view_since {w} {b} {x} {f} l m v = view_moved G (H (and_then x f b) x) (H w x) (good G (and_then x f b) (lawful_under G l m) x).history (good G w l x).history
       (record { same = λ y z i j g. (distinct_at G w l).same x x y z (hist_under G l m x i) j g })
       (record { same = λ y z i j g. (distinct_at G w l).same x x y z i (hist_under G l m x j) g })
       (header-stands G {e = f} (lawful_under G l m) now) (header-stands G {e = f} l m) v
 
   -- the view of an older message over one more turn
-  view_older : (u : Turn) (w : World) (x : Id) {o : Message} {y : Id} → Law (u ∷ w) → In o (H w x) → InView G.rule (H (u ∷ w) x) o y → InView G.rule (H w x) o y
+  view_older : (u : Turn) (w : Turns) (x : Id) {o : Message} {y : Id} → Law (u ∷ w) → In o (H w x) → InView G.rule (H (u ∷ w) x) o y → InView G.rule (H w x) o y
   view_older u w x l i v = view_moved G (H (u ∷ w) x) (H w x) (good G (u ∷ w) l x).history (good G w l.2 x).history
       (record { same = λ y z j k g. (distinct_at G (u ∷ w) l).same x x y z j (hist-more G u w l x k) g })
       (record { same = λ y z j k g. (distinct_at G (u ∷ w) l).same x x y z (hist-more G u w l x j) k g })
       (hist-more G u w l x i) i v
 
   -- who sees an operation knows what its answers make of it
-  answer_seen : (v : World) → Law v → AllRight G v → (x : Id) {o : Message} → In o (H v x) → InView G.rule (H v x) o x → IsOperation o.kind
-      → (q : Packet) (r : Given) (b : World) → Moment v o.sender (Made q r) b → q.header ≡ o → CM G o.sender q r b → (s : Id) (forward : Option Bytes)
+  answer_seen : (v : Turns) → Law v → AllRight G v → (x : Id) {o : Message} → In o (H v x) → InView G.rule (H v x) o x → IsOperation o.kind
+      → (q : Packet) (r : Given) (b : Turns) → Moment v o.sender (Made q r) b → q.header ≡ o → CM G o.sender q r b → (s : Id) (forward : Option Bytes)
       → answer_known G x (log_of v x) o.id s forward ≡ Some (bytes G.primitives (answer_term_by G.primitives o.kind r (ratchet G.primitives b o.sender) s))
   answer_seen v l a x {o} i see op q r b n d cq s forward = elim (answer_of G v x o.id s forward) [
     | from_none g f ↦ elim (stood G v x i) [
@@ -88,8 +91,7 @@ module _ (G : Setting) where
     ]
     | from_one e z m g h ↦
         let same : header_of e ≡ o = same-message (H v x) (good G v l x).history (header-stands G {e = e} l m) i g in
-        let mq : Makes G o.sender (log_of b o.sender) q r = (lawful_at G l n).0 in
-        let mk : MakerOf G x e z = maker_of G x e z (lawful_at G l m).0 (subst (λ (y : Message). In y.sender G.members) (sym same) mq.inside) in
+        let mk : MakerOf G x e z = maker_of G x e z (lawful_at G l m).0 (subst (λ (y : Message). In y.sender G.members) (sym same) (inside_at G l n)) in
         let old : Moment v o.sender (Made (packet_of e) mk.given) mk.world = subst (λ y. Moment v y.sender (Made (packet_of e) mk.given) mk.world) same (moment_under m mk.moment) in
         let one : SameMoment G (packet_of e) q mk.given r mk.world b = one_moment G old n l (same ∙ sym d) in
         let ce : CM G (header_of e).sender (packet_of e) mk.given mk.world = cm_same G one (ap (λ (y : Message). y.sender) same) cq in
@@ -123,7 +125,7 @@ module _ (G : Setting) where
   seeded_due s lg m t Text x o d = absurd o
 
   -- who does not see an operation takes what is forwarded
-  answer_unseen : (v : World) → Law v → (x : Id) {o : Message} → In o (H v x) → (InView G.rule (H v x) o x → ⊥) → IsSeeded o.kind → In o.sender G.members → (s : Id) (forward : Option Bytes)
+  answer_unseen : (v : Turns) → Law v → (x : Id) {o : Message} → In o (H v x) → (InView G.rule (H v x) o x → ⊥) → IsSeeded o.kind → In o.sender G.members → (s : Id) (forward : Option Bytes)
       → answer_known G x (log_of v x) o.id s forward ≡ forward
   answer_unseen v l x {o} i unseen seeded ino s forward = elim (answer_of G v x o.id s forward) [
     | from_none g f ↦ g
@@ -133,11 +135,11 @@ module _ (G : Setting) where
         (none e z m same)
   ]
     where
-      none : (e : Entry) (z : World) → Moment v x e z → header_of e ≡ o → seed_known G x e (log_of z x) ≡ None
+      none : (e : LogEntry) (z : Turns) → Moment v x e z → header_of e ≡ o → seed_known G x e (log_of z x) ≡ None
       none (Joined p) z m same = refl
       none (Made p t) z m same = absurd (unseen (subst (λ y. InView G.rule (H v x) o y) (ap (λ (y : Message). y.sender) (sym same) ∙ sender_is G m l) (sender_sees G.rule G.is_rule G.inviter (H v x) (each_at G v l x) i)))
       none (Took p) z m same = elim (present (part_for p.parts x)) [
-        | gives_none d ↦ ap (payload_in G x (events G x p.header.sender (log_of z x))) d
+        | gives_none d ↦ ap (payload_in G.primitives (card_of G x) (events G x p.header.sender (log_of z x))) d
         | gives part d ↦
             let f : MayLeave G z x (Took p) = (lawful_at G l m).0 in
             let wm : WasMade z p = f.1.made (subst (λ (y : Message). In y.sender G.members) (sym same) ino) in
@@ -151,7 +153,7 @@ module _ (G : Setting) where
 
   -- the motion that a message gives, from the seed and the answer
   motion_right : (k : Kind) (s : Id) (seed : Option Bytes) (answer : Id → Option Bytes) (t : Given) (term : Id → Term) → (IsSeeded k → seed ≡ Some (seed_of G.primitives t.random)) → ((i : Id) → k ≡ Ack i true → answer i ≡ Some (bytes G.primitives (term i)))
-      → motion_known G k s seed answer ≡ Some (motion_bytes G.primitives (motion_of G.primitives k s t term))
+      → motion_known G.primitives k s seed answer ≡ Some (motion_bytes G.primitives (motion_of G.primitives k s t term))
   motion_right (Create members) s seed answer t term f g = rw (f tt) refl
   motion_right Update s seed answer t term f g = rw (f tt) refl
   motion_right (Remove y) s seed answer t term f g = rw (f tt) refl
@@ -195,13 +197,13 @@ module _ (G : Setting) where
   in_older m h g {o} {y} i v = subst (λ z. In y (G.rule (o ∷ z))) (past-older m h g i) v
 
   -- the term of an operation's answers, by its maker's moment
-  term_of : (u : World) → Law u → {o : Message} {i : Id} (q : Packet) (r : Given) (b : World) → Moment u o.sender (Made q r) b → q.header ≡ o → o.id ≡ i → (s : Id)
+  term_of : (u : Turns) → Law u → {o : Message} {i : Id} (q : Packet) (r : Given) (b : Turns) → Moment u o.sender (Made q r) b → q.header ≡ o → o.id ≡ i → (s : Id)
       → answer_term_by G.primitives o.kind r (ratchet G.primitives b o.sender) s ≡ answer_term G.primitives u i s
   term_of u l {o} {i} q r b n d e s =
       ap (λ (z : Message). answer_term_by G.primitives z.kind r (ratchet G.primitives b o.sender) s) (sym d)
       ∙ sym (answer_term-at G n refl l s) ∙ ap (λ (z : Message). answer_term G.primitives u z.id s) d ∙ ap (λ z. answer_term G.primitives u z s) e
 
-  answer_took : (x : Id) (p : Packet) (w : World) (l : Law (and_then x (Took p) w)) → AllRight G w → Pays G w x p → (t : Given) (u : World) → Moment w p.header.sender (Made p t) u
+  answer_took : (x : Id) (p : Packet) (w : Turns) (l : Law (and_then x (Took p) w)) → AllRight G w → Pays G w x p → (t : Given) (u : Turns) → Moment w p.header.sender (Made p t) u
       → CM G p.header.sender p t u → InView G.rule (H (and_then x (Took p) w) x) p.header x → (i : Id) → p.header.kind ≡ Ack i true
       → answer_known G x (log_of w x) i p.header.sender (payload G x (log_of w x) p) ≡ Some (bytes G.primitives (answer_term G.primitives u i p.header.sender))
   answer_took x p w l right pay t u k cl see i ke =
@@ -256,7 +258,7 @@ module _ (G : Setting) where
         ]
       ]
 
-  answer_made : (x : Id) (p : Packet) (t : Given) (w : World) (l : Law (and_then x (Made p t) w)) → AllRight G w → CM G x p t w → (i : Id) → p.header.kind ≡ Ack i true
+  answer_made : (x : Id) (p : Packet) (t : Given) (w : Turns) (l : Law (and_then x (Made p t) w)) → AllRight G w → CM G x p t w → (i : Id) → p.header.kind ≡ Ack i true
       → answer_known G x (log_of w x) i p.header.sender None ≡ Some (bytes G.primitives (answer_term G.primitives w i p.header.sender))
   answer_made x p t w l right cl i ke =
       let here_it : In p.header (H (and_then x (Made p t) w) x) = header-stands G {e = Made p t} l now in
@@ -280,10 +282,10 @@ module _ (G : Setting) where
       ]
 
   -- one more turn
-  step : (x : Id) (e : Entry) (w : World) → Law (and_then x e w) → AllRight G w → Pays G w x (packet_of e) → Right G x e w
+  step : (x : Id) (e : LogEntry) (w : Turns) → Law (and_then x e w) → AllRight G w → Pays G w x (packet_of e) → Right G x e w
   step x (Took p) w l right pay =
-      let under : (t : Given) (u : World) → Moment (and_then x (Took p) w) p.header.sender (Made p t) u → Moment w p.header.sender (Made p t) u = λ t u m. WhenMade takes_only m in
-      let seed : (t : Given) (u : World) → Moment (and_then x (Took p) w) p.header.sender (Made p t) u → CM G p.header.sender p t u → InView G.rule (H (and_then x (Took p) w) x) p.header x → IsSeeded p.header.kind → payload G x (log_of w x) p ≡ Some (seed_of G.primitives t.random) =
+      let under : (t : Given) (u : Turns) → Moment (and_then x (Took p) w) p.header.sender (Made p t) u → Moment w p.header.sender (Made p t) u = λ t u m. WhenMade takes_only m in
+      let seed : (t : Given) (u : Turns) → Moment (and_then x (Took p) w) p.header.sender (Made p t) u → CM G p.header.sender p t u → InView G.rule (H (and_then x (Took p) w) x) p.header x → IsSeeded p.header.kind → payload G x (log_of w x) p ≡ Some (seed_of G.primitives t.random) =
       λ t u m cl see sd. pay.pays t u (under t u m) (rc G x p w l right pay t u (under t u m) cl see) (cm_before G l.2 (under t u m) cl) (seed_of G.primitives t.random) (seeded_due p.header.sender (log_of u p.header.sender) p.header t p.header.kind x sd (record {
         in_view = see_back G x p (Took p) refl w l t u (under t u m) (read_here G x p (Took p) refl w l t u (under t u m)) here see;
         other = λ d. l.0.0.other (sym d);
@@ -308,8 +310,8 @@ module _ (G : Setting) where
   }
   step x (Made p t) w l right pay =
       let mine : Moment (and_then x (Made p t) w) p.header.sender (Made p t) w = subst (λ z. Moment (and_then x (Made p t) w) z (Made p t) w) (sym l.0.sender) now in
-      let same : (r : Given) (u : World) → Moment (and_then x (Made p t) w) p.header.sender (Made p r) u → SameMoment G p p t r w u = λ r u m. one_moment G mine m l refl in
-      let mine_clean : (r : Given) (u : World) → Moment (and_then x (Made p t) w) p.header.sender (Made p r) u → CM G p.header.sender p r u → CM G x p t w =
+      let same : (r : Given) (u : Turns) → Moment (and_then x (Made p t) w) p.header.sender (Made p r) u → SameMoment G p p t r w u = λ r u m. one_moment G mine m l refl in
+      let mine_clean : (r : Given) (u : Turns) → Moment (and_then x (Made p t) w) p.header.sender (Made p r) u → CM G p.header.sender p r u → CM G x p t w =
       λ r u m cl. cm_same G (same r u m) (sym l.0.sender) cl in
       record {
         before_is = λ r u m cl see. subst (λ z. known G x (log_of w x) z ≡ Some (bytes G.primitives (ratchet G.primitives w z))) (sym l.0.sender) (own_known G w l.2 right x (cleaner G _ w l x (mine_clean r u m cl))) ∙ ap (λ z. Some (bytes G.primitives (ratchet G.primitives z p.header.sender))) (same r u m).worlds;
@@ -319,10 +321,10 @@ module _ (G : Setting) where
       }
 
   -- over a whole world
-  pub record PaysAll (w : World) : Type 0 where
-    pub each : (x : Id) (e : Entry) (v : World) → Moment w x e v → Pays G v x (packet_of e)
+  pub record PaysAll (w : Turns) : Type 0 where
+    pub each : (x : Id) (e : LogEntry) (v : Turns) → Moment w x e v → Pays G v x (packet_of e)
 
-  pub all_right : (w : World) → Law w → PaysAll w → AllRight G w
+  pub all_right : (w : Turns) → Law w → PaysAll w → AllRight G w
   all_right [] l a = record { right = λ x e v m. elim m [ ] }
   all_right (u ∷ w) l a =
       let ih : AllRight G w = all_right w l.2 (record { each = λ x e v m. a.each x e v (once m) }) in

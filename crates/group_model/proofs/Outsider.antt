@@ -5,25 +5,27 @@ use Rattle.group_model.specs.Messages.{Message, History, past}
 use Rattle.group_model.specs.Membership.{remove_wins}
 use Rattle.group_model.specs.KeyTerms.{empty_ratchet, welcome_word, add_word, seed_of, member_secret, first_chain, next_chain, message_key}
 use Rattle.group_model.specs.Pairing.{own_key, drop_by, draws}
-use Rattle.group_model.specs.Steps.{Packet, Joined, hist}
-use Rattle.group_model.specs.Knowledge.{events, learnt_of}
-use Rattle.group_model.specs.SharedSecrets.{World, log_of, Moment}
-use Rattle.group_model.specs.Worlds.{IsLawful}
+use Rattle.group_model.specs.Packets.{Packet}
+use Rattle.group_model.specs.Logs.{Joined, hist}
+use Rattle.group_model.specs.Worlds.{Turns, log_of, Moment}
+use Rattle.group_model.specs.LawfulWorlds.{IsLawful}
 use Rattle.group_model.specs.Examples.{ada, bob, cyd, eve, numbered, opening, opening_acked, eves_ack, eves_update, answer_of_bob, answer_of_ada, invitation, invitation_acked, ratchet_of_ada, later_history_of_ada, later_history_of_bob, later_history_of_cyd, RowsOfAnOutsider}
+use Rattle.group_model.proofs.InSetting.{learnt_of}
 use Rattle.group_model.proofs.Says.{both, both-true, says-has}
 use Rattle.group_model.proofs.Quick.{quick, quick_answer, quick_learnt, quick_learnt_of, quick_learnt_of-known, quick_chain}
-use Rattle.group_model.proofs.Play.{Event, Makes_it, Takes_it, Joins_by, Hears_it, can_make, can_take, can_join, is_outsider, step, play, world_of, played-lawful, is_entitled, entitled-where, there_is, value_of, value-there, welcome_of, welcome-where}
+use Rattle.group_model.proofs.Play.{PlayEvent, Makes_it, Takes_it, Joins_by, Hears_it, can_make, can_take, can_join, is_outsider, step, play, world_of, played-lawful, is_entitled, entitled-where, there_is, value_of, value-there, welcome_of, welcome-where}
 use Rattle.group_model.proofs.Toy.{toy}
 use Rattle.group_model.proofs.Members.{setting, setting_fixed, drawn, history_eq, same-history}
 use Rattle.group_model.proofs.Theorem.{agreement_between}
-use Rattle.group_model.proofs.Conduct.{own_ratchet_known}
+use Rattle.group_model.proofs.Conduct.{own_ratchet_known_in_worlds}
+use Rattle.group_model.specs.Knowledge.{events}
 
 -- a packet with nothing but its header
 abbrev bare : Message → Packet
 bare m = record { header = m; parts = []; rows = []; sealed = [] }
 
 -- the play, the newest event first
-abbrev pub script : List Event
+abbrev pub script : List PlayEvent
 script =
     Takes_it cyd (numbered 28) ∷ Takes_it cyd (numbered 25)
     ∷ Takes_it bob (numbered 28) ∷ Takes_it bob (numbered 25) ∷ Takes_it bob (numbered 27)
@@ -37,18 +39,18 @@ script =
     ∷ Takes_it ada (numbered 21) ∷ Makes_it opening_acked [] (drawn 201)
     ∷ Takes_it bob (numbered 20) ∷ Makes_it opening (bob ∷ eve ∷ []) (drawn 200) ∷ []
 
-unfoldable pub the_world : World
+unfoldable pub the_world : Turns
 the_world = world_of setting (play setting script)
 
 -- what the world is judged by
-abbrev have_histories : World → Bool
+abbrev have_histories : Turns → Bool
 have_histories w = both (history_eq (hist (log_of w ada)) later_history_of_ada)
     (both (history_eq (hist (log_of w bob)) later_history_of_bob) (history_eq (hist (log_of w cyd)) later_history_of_cyd))
 
-abbrev opening_learnt : World → Option Bytes
+abbrev opening_learnt : Turns → Option Bytes
 opening_learnt w = quick_learnt_of setting bob (log_of w bob) opening_acked
 
-abbrev know_enough : World → Bool
+abbrev know_enough : Turns → Bool
 know_enough w = both (is_entitled setting w ada opening_acked) (both (is_entitled setting w bob opening_acked) (there_is (opening_learnt w)))
 
 abbrev rows_are : Option Packet → History → Bool
@@ -72,7 +74,7 @@ eve_outside i = let e = (says-has (ada ∷ bob ∷ cyd ∷ []) eve).told i in le
 
 record Welcome : Type 0 where
   packet : Packet
-  before : World
+  before : Turns
   joined : Moment the_world cyd (Joined packet) before
   rows : packet.rows ≡ eves_rows
 
@@ -108,7 +110,7 @@ with_rows =
       before = joins.before;
       joined = joins.joined;
       rows = joins.rows;
-      cyd_ratchet = own_ratchet_known setting the_world cyd lawful_world;
+      cyd_ratchet = own_ratchet_known_in_worlds setting the_world cyd lawful_world;
       ada_entitled = e;
       bob_entitled = f;
       secret = value_of (opening_learnt the_world);

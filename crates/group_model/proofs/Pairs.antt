@@ -4,7 +4,7 @@ use Rattle.std.proofs.lemmas.Bool.Decides.{Decides-eqb}
 use Rattle.std.proofs.lemmas.Bool.{ltb-true, lt-ltb}
 use Rattle.group_model.specs.Sets.{Bytes}
 use Rattle.group_model.specs.Primitives.{KeyPair, Encapsulation, Content, Primitives}
-use Rattle.group_model.specs.Pairing.{Part, Draws, Event, Sent, Opened, sends, own_key, drop_by, dropped, last_opened, key_at, sealed_part, opened_by, opened, Target, target, content_of, IsTested, Sending, Sends, Joint, start, a_sends, b_sends, b_takes, a_takes}
+use Rattle.group_model.specs.Pairing.{Part, Draws, PairEvent, Sent, Opened, sends, own_key, drop_by, dropped, last_opened, key_at, sealed_part, opened_by, opened, Target, target, content_of, IsTested, Sending, Sends, Joint, start, a_sends, b_sends, b_takes, a_takes}
 use Rattle.group_model.proofs.ListFacts.{yes_is, no_is, test}
 
 -- where a receiver stands
@@ -12,7 +12,7 @@ record Standing : Type 0 where
   below : ℕ
   last : Option Content
 
-abbrev standing : List Event → Standing
+abbrev standing : List PairEvent → Standing
 standing es = record { below = dropped es; last = last_opened es }
 
 abbrev next : Standing → Sending → Standing
@@ -64,14 +64,14 @@ Rising K own bound (s ∷ r) = New K own bound s × Rising K own (s.content.numb
 
 -- From the sender, whose next part goes to the target, to the receiver with the events es, while q is on the
 -- way to it and r is on the way back.
-record Way (K : Primitives) (card : KeyPair) (t : Target) (es : List Event) (q r : List Sending) : Type 0 where
+record Way (K : Primitives) (card : KeyPair) (t : Target) (es : List PairEvent) (q r : List Sending) : Type 0 where
   open_all : AllOpen K (own_key card es) (standing es) q
   aimed : Aimed K (own_key card es) (after (standing es) q) t
   rising : Rising K (own_key card es) (drop_by t.made_by_sender t.number (after (standing es) q).below) r
   low : drop_by t.made_by_sender t.number (after (standing es) q).below ≤ sends es + 1
 
 -- own keys have numbers up to the sends
-own_key-low : (card : KeyPair) (es : List Event) (i : ℕ) (k : Bytes) → own_key card es i ≡ Some k → i ≤ sends es
+own_key-low : (card : KeyPair) (es : List PairEvent) (i : ℕ) (k : Bytes) → own_key card es i ≡ Some k → i ≤ sends es
 unfolding own_key
 own_key-low card [] i k e = elim (test (nat_eq i 0)) [
   | yes_is d ↦ let f : i ≡ 0 = (Decides-eqb i 0).0 d in omega arith
@@ -84,7 +84,7 @@ own_key-low card (Sent t ∷ es) i k e = elim (test (nat_eq i (sends es + 1))) [
 own_key-low card (Opened part content ∷ es) i k e = own_key-low card es i k e
 
 -- a send keeps the own keys
-own_key-kept : (card : KeyPair) (es : List Event) (d : Draws) (i : ℕ) (k : Bytes) → own_key card es i ≡ Some k
+own_key-kept : (card : KeyPair) (es : List PairEvent) (d : Draws) (i : ℕ) (k : Bytes) → own_key card es i ≡ Some k
     → own_key card (Sent d ∷ es) i ≡ Some k
 unfolding own_key
 own_key-kept card es t i k e = elim (test (nat_eq i (sends es + 1))) [
@@ -93,7 +93,7 @@ own_key-kept card es t i k e = elim (test (nat_eq i (sends es + 1))) [
   | no_is d ↦ rw d e
 ]
 
-own_key-new : (card : KeyPair) (es : List Event) (d : Draws) → own_key card (Sent d ∷ es) (sends es + 1) ≡ Some d.own.secret
+own_key-new : (card : KeyPair) (es : List PairEvent) (d : Draws) → own_key card (Sent d ∷ es) (sends es + 1) ≡ Some d.own.secret
 unfolding own_key
 own_key-new card es d = rw ((Decides-eqb (sends es + 1) (sends es + 1)).1 refl) refl
 
@@ -179,7 +179,7 @@ module _ (K : Primitives) where
       )
 
   -- the sender sends
-  Way-sends : {card : KeyPair} {t : Target} {es : List Event} {q r : List Sending} → Way K card t es q r
+  Way-sends : {card : KeyPair} {t : Target} {es : List PairEvent} {q r : List Sending} → Way K card t es q r
       → (part : Part) (content : Content) (public : Bytes) → Sealed K t content part → K.is_pair content.secret public ≡ true
       → Way K card (record { made_by_sender = true; number = content.number; public = public }) es
       (q ++ record { part = part; content = content } ∷ []) r
@@ -199,13 +199,13 @@ module _ (K : Primitives) where
       }
 
   -- the receiver takes
-  Way-taken : {card : KeyPair} {t : Target} {es : List Event} {q r : List Sending} {s : Sending} → Way K card t es (s ∷ q) r
+  Way-taken : {card : KeyPair} {t : Target} {es : List PairEvent} {q r : List Sending} {s : Sending} → Way K card t es (s ∷ q) r
       → Way K card t (Opened s.part s.content ∷ es) q r
   unfolding own_key
   Way-taken w = record { open_all = w.open_all.1; aimed = w.aimed; rising = w.rising; low = w.low }
 
   -- the receiver sends
-  Way-answered : {card : KeyPair} {t : Target} {es : List Event} {q r : List Sending} → Way K card t es q r → (d : Draws) (s : Sending)
+  Way-answered : {card : KeyPair} {t : Target} {es : List PairEvent} {q r : List Sending} → Way K card t es q r → (d : Draws) (s : Sending)
       → s.content.number ≡ sends es + 1 → K.is_pair d.own.secret s.content.public ≡ true → Way K card t (Sent d ∷ es) q (r ++ s ∷ [])
   Way-answered {card} {t} {es} {q} {r} w d s n p =
       let m : More (own_key card es) (own_key card (Sent d ∷ es)) = record { kept = own_key-kept card es d } in
@@ -222,7 +222,7 @@ module _ (K : Primitives) where
       }
 
   -- the sender takes
-  Way-heard : {card : KeyPair} {t : Target} {es : List Event} {q r : List Sending} {s : Sending} → Way K card t es q (s ∷ r)
+  Way-heard : {card : KeyPair} {t : Target} {es : List PairEvent} {q r : List Sending} {s : Sending} → Way K card t es q (s ∷ r)
       → Way K card (record { made_by_sender = false; number = s.content.number; public = s.content.public }) es q r
   Way-heard {card} {t} {es} {q} {r} {s} w =
       let below : ℕ = (after (standing es) q).below in
@@ -248,11 +248,11 @@ module _ (K : Primitives) where
   sealed_part-is t seed content (Some x) (Some y) part p q e =
       record { seed = seed; e = x; written = y; encapsulated = p; is_written = q; is = cc }
 
-  record Both (a b : KeyPair) (ea eb : List Event) (qa qb : List Sending) : Type 0 where
+  record Both (a b : KeyPair) (ea eb : List PairEvent) (qa qb : List Sending) : Type 0 where
     to_b : Way K b (target b.public ea) eb qa qb
     to_a : Way K a (target a.public eb) ea qb qa
 
-  Way-sends_next : {card : KeyPair} {es ea : List Event} {q r : List Sending} → Way K card (target card.public ea) es q r
+  Way-sends_next : {card : KeyPair} {es ea : List PairEvent} {q r : List Sending} → Way K card (target card.public ea) es q r
       → (d : Draws) (payload : Bytes) (s : Sending) → Sends K card.public ea d payload s
       → Way K card (target card.public (Sent d ∷ ea)) es (q ++ s ∷ []) r
   Way-sends_next {card} {es} {ea} {q} {r} w d payload s k =
@@ -261,12 +261,12 @@ module _ (K : Primitives) where
       (Way-sends w s.part (content_of ea d payload) d.other.public
       (sealed_part-is (target card.public ea) d.encapsulation (content_of ea d payload) _ _ s.part refl refl k.part) k.other_tested)
 
-  Way-answered_next : {card : KeyPair} {t : Target} {es : List Event} {q r : List Sending} {theirs : Bytes} → Way K card t es q r
+  Way-answered_next : {card : KeyPair} {t : Target} {es : List PairEvent} {q r : List Sending} {theirs : Bytes} → Way K card t es q r
       → (d : Draws) (payload : Bytes) (s : Sending) → Sends K theirs es d payload s → Way K card t (Sent d ∷ es) q (r ++ s ∷ [])
   Way-answered_next w d payload s k = Way-answered w d s (ap (λ (z : Content). z.number) k.content)
       (ap (λ (z : Content). K.is_pair d.own.secret z.public) k.content ∙ k.own_tested)
 
-  both : {a b : KeyPair} {ea eb : List Event} {qa qb : List Sending} → Joint K a b ea eb qa qb → Both a b ea eb qa qb
+  both : {a b : KeyPair} {ea eb : List PairEvent} {qa qb : List Sending} → Joint K a b ea eb qa qb → Both a b ea eb qa qb
   both {a} {b} (start p q) = record { to_b = Way-start b q; to_a = Way-start a p }
   both (a_sends d v s k j) = let w = both j in
       record { to_b = Way-sends_next w.to_b d v s k; to_a = Way-answered_next w.to_a d v s k }
@@ -285,12 +285,12 @@ module _ (K : Primitives) where
       (rw (K.unseal_seal s.e.key s.written) (K.read_write content s.written s.is_written)))
 
   -- every part opens to its content when the other side takes it in its turn
-  pub opens_for_b : {a b : KeyPair} {ea eb : List Event} {qa qb : List Sending} → (s : Sending) → Joint K a b ea eb (s ∷ qa) qb
+  pub opens_for_b : {a b : KeyPair} {ea eb : List PairEvent} {qa qb : List Sending} → (s : Sending) → Joint K a b ea eb (s ∷ qa) qb
       → opened K b eb s.part ≡ Some s.content
   opens_for_b {b = b} {eb = eb} s j = let w = (both j).to_b.open_all.0 in
       opens (own_key b eb) (standing eb) w.to w.key s.content s.part w.is_key w.tested w.sealed
 
-  pub opens_for_a : {a b : KeyPair} {ea eb : List Event} {qa qb : List Sending} → (s : Sending) → Joint K a b ea eb qa (s ∷ qb)
+  pub opens_for_a : {a b : KeyPair} {ea eb : List PairEvent} {qa qb : List Sending} → (s : Sending) → Joint K a b ea eb qa (s ∷ qb)
       → opened K a ea s.part ≡ Some s.content
   opens_for_a {a = a} {ea = ea} s j = let w = (both j).to_a.open_all.0 in
       opens (own_key a ea) (standing ea) w.to w.key s.content s.part w.is_key w.tested w.sealed

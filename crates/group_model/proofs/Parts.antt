@@ -4,9 +4,11 @@ use Rattle.std.specs.Str.{bytes_eq}
 use Rattle.std.proofs.lemmas.Slice.Eq.{bytes_eq-Decides}
 use Rattle.group_model.specs.Sets.{Bytes, Id, In, here, there}
 use Rattle.group_model.specs.Pairing.{Part}
-use Rattle.group_model.specs.Steps.{Setting, Addressed, Packet, Given, Log, part_for}
-use Rattle.group_model.specs.Packets.{parts_of, payload_sent, part_with, part_sent, IsDue}
-use Rattle.group_model.specs.Worlds.{Makes}
+use Rattle.group_model.specs.Settings.{Setting}
+use Rattle.group_model.specs.Packets.{Addressed, Packet, Given, part_for}
+use Rattle.group_model.specs.Logs.{Log}
+use Rattle.group_model.specs.Parts.{parts_of}
+use Rattle.group_model.proofs.InSetting.{payload_sent, part_with, part_sent, IsDue, Makes}
 use Rattle.group_model.proofs.ListFacts.{yes_is, no_is, test, In-cases}
 
 -- an option is nothing or something

@@ -1,4 +1,4 @@
-use Rattle.std.proofs.Common.{◌⊎◌, inl, inr, ◌≡◌, true, false, List, [], ◌∷◌, ◌++◌, refl, sym, ◌∙◌, subst}
+use Rattle.std.proofs.Common.{◌⊎◌, inl, inr, ◌≡◌, true, false, List, [], ◌∷◌, ◌++◌, refl, sym, ◌∙◌, subst, ap}
 use Rattle.group_model.specs.Sets.{Id, In, here, there, has}
 use Rattle.group_model.specs.Messages.{Message, History, past, with_past, Stands, IsHistory, AreHeads}
 use Rattle.group_model.proofs.ListFacts.{yes_is, no_is, test, has-In, In-has, In-left, In-right, In-either, In-nothing, In-cases, In-head}
@@ -234,3 +234,19 @@ heads-lead_back h g w k i = heads-all h g w (heads-cover h w k) i
 pub past-of_none : (h : History) → past h [] ≡ []
 past-of_none [] = past-none []
 past-of_none (m ∷ older) = past-left m older [] refl ∙ past-of_none older
+
+-- a past that has the whole history is the history
+pub past-all : (h : History) → IsHistory h → (w : List Id) → ((a : Message) → In a h → In a (past h w)) → past h w ≡ h
+past-all [] g w f = past-none w
+past-all (m ∷ older) g w f = elim (test (has w m.id)) [
+  | no_is e ↦ absurd (g.1 (record {
+    by = m;
+    has_id = refl;
+    there_is = past-within older w (subst (λ z. In m z) (past-left m older w e) (f m here));
+  }))
+  | yes_is e ↦ past-taken m older w e ∙ ap (λ z. m ∷ z) (past-all older g.2 (m.predecessors ++ w) (λ a i.
+      elim (In-cases (subst (λ z. In a z) (past-taken m older w e) (f a (there i)))) [
+        | inl d ↦ absurd (g.1 (record { by = a; there_is = i; has_id = ap (λ (z : Message). z.id) d }))
+        | inr j ↦ j
+      ]))
+]

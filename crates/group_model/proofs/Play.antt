@@ -1,34 +1,38 @@
 -- A play: events that leave entries in the members' logs where each is one that its member may leave. Whatever is played
 -- is a lawful world.
-use Rattle.std.proofs.Common.{◌≡◌, Bool, true, false, inl, inr, List, [], ◌∷◌, ◌++◌, Option, Some, None, refl, sym, ◌∙◌, subst, ap, option_map}
+use Rattle.std.proofs.Common.{◌≡◌, Bool, true, false, inl, inr, List, [], ◌∷◌, ◌++◌, Option, Some, None, refl, sym, ◌∙◌, subst, ap, option_map, nat_eq}
 use Rattle.std.specs.Option.{option_and_then}
 use Rattle.std.specs.Str.{bytes_eq}
 use Rattle.group_model.specs.Sets.{Bytes, Id, In, here, there, has}
 use Rattle.group_model.specs.Messages.{Kind, Create, Update, Remove, Add, Ack, AddAck, Text, Message, History, with_past, IsHistory, AreHeads}
-use Rattle.group_model.specs.Membership.{named_by}
-use Rattle.group_model.specs.Validity.{Answers, MayFollow, AllValid}
-use Rattle.group_model.specs.Steps.{Setting, Addressed, Packet, Given, Entry, Joined, Took, Made, Log, hist}
-use Rattle.group_model.specs.Knowledge.{answer_known, chain_known, text_sealed}
-use Rattle.group_model.specs.SharedSecrets.{Turn, World, log_of, Moment, now, once}
-use Rattle.group_model.specs.Worlds.{WasMade, AreHashesDistinct, Makes, IsAuthentic, MayLeave, IsLawful}
+use Rattle.group_model.specs.Membership.{named_by, IsAddressee}
+use Rattle.group_model.specs.Pairing.{Part}
+use Rattle.group_model.specs.Validity.{Answers, MayFollow, AllValid, IsUnforked, AreUnforked}
+use Rattle.group_model.specs.Settings.{Setting}
+use Rattle.group_model.specs.Packets.{Addressed, Packet, Given, part_for}
+use Rattle.group_model.specs.Logs.{LogEntry, Joined, Took, Made, Log, hist}
+use Rattle.group_model.specs.Knowledge.{text_sealed}
+use Rattle.group_model.specs.Worlds.{Turn, Turns, log_of, Moment, now, once}
+use Rattle.group_model.specs.LawfulWorlds.{WasMade, AreHashesDistinct, IsAuthentic, MayLeave, IsLawful}
 use Rattle.group_model.specs.Conduct.{waiting, Follows, AnswersAtOnce}
 use Rattle.group_model.specs.Agreement.{MadeBy, IsEntitled}
+use Rattle.group_model.proofs.InSetting.{answer_known, chain_known, Makes}
 use Rattle.group_model.proofs.ListFacts.{yes_is, no_is, test, In-cases, In-nothing, In-left, In-right, In-either}
 use Rattle.group_model.proofs.RemoveWins.{In-Names}
 use Rattle.group_model.proofs.Parts.{gives, gives_none, present}
 use Rattle.group_model.proofs.Worlds.{own, apart, log_case, log-none, good, lawful_at}
-use Rattle.group_model.proofs.Says.{both, either, opposite, any, each, both-true, either-true, any-true, each-true, says-not, says-same, says-has}
-use Rattle.group_model.proofs.Verdicts.{answers, says-answers, adds, says-adds, comes_next, says-comes_next, are_heads, heads-where}
-use Rattle.group_model.proofs.Judged.{message_eq, same-message_eq, may_follow, follow-where, is_in_view, says-view, are_addressees, addressees-where}
+use Rattle.group_model.proofs.Says.{both, either, opposite, any, each, both-true, either-true, any-true, each-true, says-not, says-and, says-each, says-same, says-has}
+use Rattle.group_model.proofs.Verdicts.{says-equal, answers, says-answers, adds, says-adds, comes_next, says-comes_next, are_heads, heads-where}
+use Rattle.group_model.proofs.Judged.{message_eq, same-message_eq, may_follow, follow-where, is_in_view, says-view, is_addressee, says-addressee, are_addressees, addressees-where}
 use Rattle.group_model.proofs.Quick.{quick_answer, quick_answer-known, quick_chain, quick_chain-known, quick_payload, quick_parts, quick_parts-sent}
 
 -- the messages that a turn brings, and all of a world
-abbrev pub brought : Entry → List Message
+abbrev pub brought : LogEntry → List Message
 brought (Joined p) = p.header ∷ p.rows
 brought (Took p) = p.header ∷ []
 brought (Made p t) = p.header ∷ []
 
-abbrev pub messages_of : World → List Message
+abbrev pub messages_of : Turns → List Message
 messages_of [] = []
 messages_of (u ∷ w) = brought u.entry ++ messages_of w
 
@@ -46,10 +50,10 @@ agrees-where ms a e b i d = elim (either-true _ _ (each-true (λ (b : Message). 
 ]
 
 -- the new messages agree with all
-abbrev pub fits : List Message → World → Bool
+abbrev pub fits : List Message → Turns → Bool
 fits new w = each (λ (a : Message). agrees (new ++ messages_of w) a) new
 
-fits-where : (new : List Message) (w : World) → IsDistinct (messages_of w) → fits new w ≡ true → IsDistinct (new ++ messages_of w)
+fits-where : (new : List Message) (w : Turns) → IsDistinct (messages_of w) → fits new w ≡ true → IsDistinct (new ++ messages_of w)
 fits-where new w k e = record {
   same = λ a b i j d. elim (In-either new i) [
     | inl p ↦ agrees-where (new ++ messages_of w) a (each-true (λ (a : Message). agrees (new ++ messages_of w) a) new e a p) b j d
@@ -60,39 +64,39 @@ fits-where new w k e = record {
   ];
 }
 
-hist-brought : (w : World) (x : Id) {a : Message} → In a (hist (log_of w x)) → In a (messages_of w)
+hist-brought : (w : Turns) (x : Id) {a : Message} → In a (hist (log_of w x)) → In a (messages_of w)
 hist-brought [] x i = absurd (In-nothing (rw (log-none x) at i))
 hist-brought (u ∷ w) x {a} i = elim (log_case u w x) [
   | apart p q ↦ In-right (brought u.entry) (hist-brought w x (rw q at i))
   | own p q ↦ by u.entry (λ k. hist-brought w x k) (rw q at i)
 ]
   where
-    by : (e : Entry) → (In a (hist (log_of w x)) → In a (messages_of w)) → In a (hist (e ∷ log_of w x)) → In a (brought e ++ messages_of w)
+    by : (e : LogEntry) → (In a (hist (log_of w x)) → In a (messages_of w)) → In a (hist (e ∷ log_of w x)) → In a (brought e ++ messages_of w)
     by (Joined p) f i = In-left (messages_of w) i
     by (Took p) f i = elim (In-cases i) [ inl d ↦ subst (λ z. In z (p.header ∷ messages_of w)) (sym d) here | inr j ↦ there (f j) ]
     by (Made p t) f i = elim (In-cases i) [ inl d ↦ subst (λ z. In z (p.header ∷ messages_of w)) (sym d) here | inr j ↦ there (f j) ]
 
-hashes-distinct : (w : World) → IsDistinct (messages_of w) → AreHashesDistinct w
+hashes-distinct : (w : Turns) → IsDistinct (messages_of w) → AreHashesDistinct w
 hashes-distinct w k = record { same = λ x y a b i j e. k.same a b (hist-brought w x i) (hist-brought w y j) e }
 
 -- the packet of the world with this id
-abbrev packet_here : Id → Entry → Id → Option Packet → Option Packet
+abbrev packet_here : Id → LogEntry → Id → Option Packet → Option Packet
 packet_here who (Joined p) i older = older
 packet_here who (Took p) i older = older
 packet_here who (Made p t) i older = elim (both (bytes_eq p.header.id i) (bytes_eq who p.header.sender)) [ true ↦ Some p | false ↦ older ]
 
-abbrev pub packet_made : World → Id → Option Packet
+abbrev pub packet_made : Turns → Id → Option Packet
 packet_made [] i = None
 packet_made (u ∷ w) i = packet_here u.who u.entry i (packet_made w i)
 
-WasMade-once : (u : Turn) (w : World) (p : Packet) → WasMade w p → WasMade (u ∷ w) p
+WasMade-once : (u : Turn) (w : Turns) (p : Packet) → WasMade w p → WasMade (u ∷ w) p
 WasMade-once u w p m = record { given = m.given; before = m.before; moment = once m.moment }
 
-packet_made-where : (w : World) (i : Id) (p : Packet) → packet_made w i ≡ Some p → WasMade w p
+packet_made-where : (w : Turns) (i : Id) (p : Packet) → packet_made w i ≡ Some p → WasMade w p
 packet_made-where [] i p e = cc
 packet_made-where (u ∷ w) i p e = by u.who u.entry (λ d. packet_made-where w i p d) e
   where
-    by : (x : Id) (f : Entry) → (packet_made w i ≡ Some p → WasMade w p) → packet_here x f i (packet_made w i) ≡ Some p
+    by : (x : Id) (f : LogEntry) → (packet_made w i ≡ Some p → WasMade w p) → packet_here x f i (packet_made w i) ≡ Some p
         → WasMade (record { who = x; entry = f } ∷ w) p
     by x (Joined q) k e = WasMade-once _ w p (k e)
     by x (Took q) k e = WasMade-once _ w p (k e)
@@ -109,23 +113,23 @@ packet_made-where (u ∷ w) i p e = by u.who u.entry (λ d. packet_made-where w 
     ]
 
 -- the message was made in the world
-abbrev made_it : Id → Entry → Message → Bool
+abbrev made_it : Id → LogEntry → Message → Bool
 made_it who (Joined p) a = false
 made_it who (Took p) a = false
 made_it who (Made p t) a = both (bytes_eq who a.sender) (message_eq p.header a)
 
-abbrev pub is_made : World → Message → Bool
+abbrev pub is_made : Turns → Message → Bool
 is_made [] a = false
 is_made (u ∷ w) a = either (made_it u.who u.entry a) (is_made w a)
 
-made-where : (w : World) (a : Message) → is_made w a ≡ true → MadeBy w a
+made-where : (w : Turns) (a : Message) → is_made w a ≡ true → MadeBy w a
 made-where [] a e = cc
 made-where (u ∷ w) a e = elim (either-true (made_it u.who u.entry a) (is_made w a) e) [
   | inl k ↦ by u.who u.entry k
   | inr k ↦ let m = made-where w a k in record { packet = m.packet; given = m.given; before = m.before; moment = once m.moment; is = m.is }
 ]
   where
-    by : (x : Id) (f : Entry) → made_it x f a ≡ true → MadeBy (record { who = x; entry = f } ∷ w) a
+    by : (x : Id) (f : LogEntry) → made_it x f a ≡ true → MadeBy (record { who = x; entry = f } ∷ w) a
     by x (Joined p) k = cc
     by x (Took p) k = cc
     by x (Made p t) k = let l = both-true (bytes_eq x a.sender) (message_eq p.header a) k in record {
@@ -173,13 +177,34 @@ fresh-where : (l : Log) → is_fresh l ≡ true → l ≡ []
 fresh-where [] e = refl
 fresh-where (f ∷ l) e = cc
 
+-- no message of the history has the sender and the number of another
+abbrev is_unforked : History → Message → Bool
+is_unforked h m = each (λ (a : Message). opposite (both (bytes_eq a.sender m.sender) (nat_eq a.seq m.seq))) h
+
+unforked-where : (h : History) (m : Message) → is_unforked h m ≡ true → IsUnforked h m
+unforked-where h m e a i s n =
+    (says-each (λ (a : Message). says-not (says-and (says-same a.sender m.sender) (says-equal a.seq m.seq))) h).holds e a i (s, n)
+
+abbrev are_unforked : History → Bool
+are_unforked [] = true
+are_unforked (m ∷ h) = both (is_unforked h m) (are_unforked h)
+
+all_unforked-where : (h : History) → are_unforked h ≡ true → AreUnforked h
+all_unforked-where [] e = tt
+all_unforked-where (m ∷ h) e = let k = both-true (is_unforked h m) (are_unforked h) e in
+    (unforked-where h m k.0, all_unforked-where h k.1)
+
+abbrev has_no_part : Option Part → Bool
+has_no_part None = true
+has_no_part (Some q) = false
+
 -- what a play has: a member makes a message with parts for these ids; a member takes a packet that was made, or joins by
 -- it; a member takes a packet of an outsider
-pub data Event : Type 0 where
-  Makes_it : (message : Message) → (to : List Id) → (given : Given) → Event
-  Takes_it : (who : Id) → (id : Id) → Event
-  Joins_by : (who : Id) → (id : Id) → Event
-  Hears_it : (who : Id) → (packet : Packet) → Event
+pub data PlayEvent : Type 0 where
+  Makes_it : (message : Message) → (to : List Id) → (given : Given) → PlayEvent
+  Takes_it : (who : Id) → (id : Id) → PlayEvent
+  Joins_by : (who : Id) → (id : Id) → PlayEvent
+  Hears_it : (who : Id) → (packet : Packet) → PlayEvent
 
 module _ (G : Setting) where
   -- an ack that took knows its secret, and a text has a key
@@ -199,24 +224,24 @@ module _ (G : Setting) where
       (r.0, sym (quick_answer-known G x l i x None) ∙ r.1)
 
   abbrev sealed_by : Option Bytes → Given → Bytes
-  sealed_by chain t = value_of (text_sealed G chain t.text)
+  sealed_by chain t = value_of (text_sealed G.primitives chain t.text)
 
-  sealed-there : (chain : Option Bytes) (t : Given) → there_is chain ≡ true → text_sealed G chain t.text ≡ Some (sealed_by chain t)
+  sealed-there : (chain : Option Bytes) (t : Given) → there_is chain ≡ true → text_sealed G.primitives chain t.text ≡ Some (sealed_by chain t)
   sealed-there None t e = cc
   sealed-there (Some k) t e = refl
 
   ready-text : (x : Id) (l : Log) (k : Kind) (t : Given) → is_ready x l k ≡ true → k ≡ Text
-      → text_sealed G (chain_known G x l x) t.text ≡ Some (sealed_by (quick_chain G x l x) t)
-  ready-text x l k t e d = ap (λ z. text_sealed G z t.text) (sym (quick_chain-known G x l x))
+      → text_sealed G.primitives (chain_known G x l x) t.text ≡ Some (sealed_by (quick_chain G x l x) t)
+  ready-text x l k t e d = ap (λ z. text_sealed G.primitives z t.text) (sym (quick_chain-known G x l x))
       ∙ sealed-there (quick_chain G x l x) t (subst (λ z. is_ready x l z ≡ true) d e)
 
-  unfoldable pub can_make : World → Message → List Id → Bool
+  unfoldable pub can_make : Turns → Message → List Id → Bool
   can_make w m to =
       both (has G.members m.sender) (both (comes_next (hist (log_of w m.sender)) m) (both (are_heads (hist (log_of w m.sender)) m.predecessors)
       (both (may_follow G.rule G.inviter (hist (log_of w m.sender)) m) (both (are_addressees G.rule (m ∷ hist (log_of w m.sender)) m to)
       (both (is_ready m.sender (log_of w m.sender) m.kind) (fits (m ∷ []) w))))))
 
-  abbrev made_packet : World → Message → Given → List Addressed → Packet
+  abbrev made_packet : Turns → Message → Given → List Addressed → Packet
   made_packet w m t parts = record {
     header = m;
     parts = parts;
@@ -224,20 +249,32 @@ module _ (G : Setting) where
     sealed = sealed_by (quick_chain G m.sender (log_of w m.sender) m.sender) t;
   }
 
+  -- a part for x is one that the message is to have
+  abbrev has_no_other_part : History → Packet → Id → Bool
+  has_no_other_part h p x = either (has_no_part (part_for p.parts x)) (is_addressee G.rule (p.header ∷ h) p.header p.header.kind x)
+
+  part-due : (h : History) (p : Packet) (x : Id) → has_no_other_part h p x ≡ true → (q : Part) → part_for p.parts x ≡ Some q
+      → IsAddressee G.rule (p.header ∷ h) p.header p.header.kind x
+  part-due h p x e q d = elim (either-true (has_no_part (part_for p.parts x)) _ e) [
+    | inl n ↦ (let f : has_no_part (Some q) ≡ true = subst (λ z. has_no_part z ≡ true) d n in cc)
+    | inr a ↦ (says-addressee G.rule (p.header ∷ h) p.header p.header.kind x).holds a
+  ]
+
   -- what one side of a packet taken asks
-  unfoldable pub can_take : World → Id → Packet → Bool
+  unfoldable pub can_take : Turns → Id → Packet → Bool
   can_take w x p = both (opposite (bytes_eq p.header.sender x)) (both (has G.members x) (both (comes_next (hist (log_of w x)) p.header)
       (both (may_follow G.rule G.inviter (hist (log_of w x)) p.header)
-      (both (either (opposite (is_fresh (log_of w x))) (has (named_by p.header.kind) x)) (fits (p.header ∷ []) w)))))
+      (both (either (opposite (is_fresh (log_of w x))) (has (named_by p.header.kind) x))
+      (both (is_unforked (hist (log_of w x)) p.header) (both (has_no_other_part (hist (log_of w x)) p x) (fits (p.header ∷ []) w)))))))
 
-  unfoldable pub can_join : World → Id → Packet → Bool
+  unfoldable pub can_join : Turns → Id → Packet → Bool
   can_join w x p = both (is_fresh (log_of w x)) (both (opposite (bytes_eq p.header.sender x)) (both (has G.members x)
-      (both (adds p.header.kind x) (fits (p.header ∷ p.rows) w))))
+      (both (adds p.header.kind x) (both (is_unforked p.rows p.header) (both (are_unforked p.rows) (fits (p.header ∷ p.rows) w))))))
 
   unfoldable pub is_outsider : Id → Bool
   is_outsider s = opposite (has G.members s)
 
-  unfoldable pub step : World → Event → Option World
+  unfoldable pub step : Turns → PlayEvent → Option Turns
   step w (Makes_it m to t) = elim (can_make w m to) [
     | true ↦ option_map (λ parts. record { who = m.sender; entry = Made (made_packet w m t parts) t } ∷ w)
         (quick_parts G m.sender (log_of w m.sender) t (quick_payload G m.sender (log_of w m.sender) t m.kind) to)
@@ -257,17 +294,17 @@ module _ (G : Setting) where
   ]
 
   -- a lawful world with one message for an id
-  pub record Sound (w : World) : Type 0 where
+  pub record Sound (w : Turns) : Type 0 where
     pub lawful : IsLawful G w
     pub distinct : IsDistinct (messages_of w)
 
-  sound-more : (u : Turn) (w : World) → Sound w → MayLeave G w u.who u.entry → fits (brought u.entry) w ≡ true → Sound (u ∷ w)
-  sound-more u w s f e = let d = fits-where (brought u.entry) w s.distinct e in record {
+  sound-more : (u : Turn) (w : Turns) → Sound w → In u.who G.members → MayLeave G w u.who u.entry → fits (brought u.entry) w ≡ true → Sound (u ∷ w)
+  sound-more u w s i f e = let d = fits-where (brought u.entry) w s.distinct e in record {
     distinct = d;
-    lawful = (f, hashes-distinct (u ∷ w) d, s.lawful);
+    lawful = (f, hashes-distinct (u ∷ w) d, s.lawful, i);
   }
 
-  making : (w : World) (m : Message) (to : List Id) (t : Given) (parts : List Addressed) → Sound w → can_make w m to ≡ true
+  making : (w : Turns) (m : Message) (to : List Id) (t : Given) (parts : List Addressed) → Sound w → can_make w m to ≡ true
       → quick_parts G m.sender (log_of w m.sender) t (quick_payload G m.sender (log_of w m.sender) t m.kind) to ≡ Some parts
       → Sound (record { who = m.sender; entry = Made (made_packet w m t parts) t } ∷ w)
   unfolding can_make
@@ -280,9 +317,8 @@ module _ (G : Setting) where
       let p = both-true (are_addressees G.rule (m ∷ hist (log_of w m.sender)) m to) _ o.1 in
       let q = both-true (is_ready m.sender (log_of w m.sender) m.kind) _ p.1 in
       let c = (says-comes_next (hist (log_of w m.sender)) m).holds l.0 in
-      sound-more (record { who = m.sender; entry = Made (made_packet w m t parts) t }) w s (record {
+      sound-more (record { who = m.sender; entry = Made (made_packet w m t parts) t }) w s ((says-has G.members m.sender).holds k.0) (record {
         sender = refl;
-        inside = (says-has G.members m.sender).holds k.0;
         history = (c.0, c.1, (good G w s.lawful m.sender).history);
         heads = heads-where (hist (log_of w m.sender)) m.predecessors n.0;
         valid = follow-where G.rule G.inviter (hist (log_of w m.sender)) m o.0;
@@ -294,7 +330,7 @@ module _ (G : Setting) where
         text = λ a. ready-text m.sender (log_of w m.sender) m.kind t q.0 a;
       }) q.1
 
-  taking : (w : World) (x : Id) (p : Packet) → Sound w → IsAuthentic G w p → can_take w x p ≡ true
+  taking : (w : Turns) (x : Id) (p : Packet) → Sound w → IsAuthentic G w p → can_take w x p ≡ true
       → Sound (record { who = x; entry = Took p } ∷ w)
   unfolding can_take
   taking w x p s a e =
@@ -303,22 +339,25 @@ module _ (G : Setting) where
       let m = both-true (comes_next (hist (log_of w x)) p.header) _ l.1 in
       let n = both-true (may_follow G.rule G.inviter (hist (log_of w x)) p.header) _ m.1 in
       let o = both-true (either (opposite (is_fresh (log_of w x))) (has (named_by p.header.kind) x)) _ n.1 in
+      let q = both-true (is_unforked (hist (log_of w x)) p.header) _ o.1 in
+      let r = both-true (has_no_other_part (hist (log_of w x)) p x) _ q.1 in
       let c = (says-comes_next (hist (log_of w x)) p.header).holds m.0 in
-      sound-more (record { who = x; entry = Took p }) w s (
+      sound-more (record { who = x; entry = Took p }) w s ((says-has G.members x).holds l.0) (
         record {
           other = (says-not (says-same p.header.sender x)).holds k.0;
-          inside = (says-has G.members x).holds l.0;
           history = (c.0, c.1, (good G w s.lawful x).history);
           valid = follow-where G.rule G.inviter (hist (log_of w x)) p.header n.0;
           invited = λ f. elim (either-true _ _ o.0) [
             | inl z ↦ absurd (let y : opposite (is_fresh []) ≡ true = subst (λ v. opposite (is_fresh v) ≡ true) f z in cc)
             | inr z ↦ In-Names p.header.kind x ((says-has (named_by p.header.kind) x).holds z)
           ];
+          unforked = unforked-where (hist (log_of w x)) p.header q.0;
+          part_due = part-due (hist (log_of w x)) p x r.0;
         },
         a,
-      ) o.1
+      ) r.1
 
-  joining : (w : World) (x : Id) (p : Packet) → Sound w → WasMade w p → can_join w x p ≡ true
+  joining : (w : Turns) (x : Id) (p : Packet) → Sound w → WasMade w p → can_join w x p ≡ true
       → Sound (record { who = x; entry = Joined p } ∷ w)
   unfolding can_join
   joining w x p s made e =
@@ -328,23 +367,26 @@ module _ (G : Setting) where
       let n = both-true (adds p.header.kind x) _ m.1 in
       let at = lawful_at G s.lawful made.moment in
       let mk : Makes G p.header.sender (log_of made.before p.header.sender) p made.given = at.0 in
+      let o = both-true (is_unforked p.rows p.header) _ n.1 in
+      let q = both-true (are_unforked p.rows) _ o.1 in
       let add : p.header.kind ≡ Add x = (says-adds p.header.kind x).holds n.0 in
       let r : hist (log_of made.before p.header.sender) ≡ p.rows = sym (mk.rows x add) in
-      sound-more (record { who = x; entry = Joined p }) w s (
+      sound-more (record { who = x; entry = Joined p }) w s ((says-has G.members x).holds m.0) (
         record {
           fresh = fresh-where (log_of w x) k.0;
           other = (says-not (says-same p.header.sender x)).holds l.0;
-          inside = (says-has G.members x).holds m.0;
           adds = add;
           heads = subst (λ z. AreHeads z p.header.predecessors) r mk.heads;
           history = subst (λ z. IsHistory (p.header ∷ z)) r mk.history;
           all_valid = subst (λ z. AllValid G.rule G.inviter z) r (good G made.before at.1 p.header.sender).valid;
           valid = subst (λ z. MayFollow G.rule G.inviter z p.header) r mk.valid;
+          unforked = unforked-where p.rows p.header o.0;
+          rows_unforked = all_unforked-where p.rows q.0;
         },
         record { made = λ i. made },
-      ) n.1
+      ) q.1
 
-  step-sound : (w : World) (e : Event) (v : World) → Sound w → step w e ≡ Some v → Sound v
+  step-sound : (w : Turns) (e : PlayEvent) (v : Turns) → Sound w → step w e ≡ Some v → Sound v
   unfolding step is_outsider
   step-sound w (Makes_it m to t) v s e = elim (test (can_make w m to)) [
     | no_is n ↦ let d : None ≡ Some v = rw (n, step) at e in cc
@@ -386,15 +428,15 @@ module _ (G : Setting) where
   ]
 
   -- the newest event first
-  abbrev pub play : List Event → Option World
+  abbrev pub play : List PlayEvent → Option Turns
   play [] = Some []
   play (e ∷ es) = option_and_then (λ w. step w e) (play es)
 
-  abbrev pub world_of : Option World → World
+  abbrev pub world_of : Option Turns → Turns
   world_of None = []
   world_of (Some w) = w
 
-  play-sound : (es : List Event) (w : World) → play es ≡ Some w → Sound w
+  play-sound : (es : List PlayEvent) (w : Turns) → play es ≡ Some w → Sound w
   play-sound [] w e = subst (λ z. Sound z) (let d : [] ≡ w = cc in d) (record { lawful = tt; distinct = record { same = λ a b i j d. elim i [ ] } })
   play-sound (f ∷ es) w e = elim (present (play es)) [
     | gives_none n ↦ let d : None ≡ Some w = rw n at e in cc
@@ -402,18 +444,18 @@ module _ (G : Setting) where
   ]
 
   -- what is played is lawful
-  pub played-lawful : (es : List Event) → IsLawful G (world_of (play es))
+  pub played-lawful : (es : List PlayEvent) → IsLawful G (world_of (play es))
   played-lawful es = elim (present (play es)) [
     | gives_none n ↦ rw n tt
     | gives w g ↦ rw g (play-sound es w g).lawful
   ]
 
   -- who is entitled to a message
-  abbrev pub is_entitled : World → Id → Message → Bool
+  abbrev pub is_entitled : Turns → Id → Message → Bool
   is_entitled w x m = both (any (λ (a : Message). message_eq a m) (hist (log_of w x)))
       (both (each (λ (a : Message). is_made w a) (with_past (hist (log_of w x)) m)) (is_in_view G.rule (hist (log_of w x)) m x))
 
-  pub entitled-where : (w : World) (x : Id) (m : Message) → is_entitled w x m ≡ true → IsEntitled G w x m
+  pub entitled-where : (w : Turns) (x : Id) (m : Message) → is_entitled w x m ≡ true → IsEntitled G w x m
   entitled-where w x m e =
       let k = both-true (any (λ (a : Message). message_eq a m) (hist (log_of w x))) _ e in
       let l = both-true (each (λ (a : Message). is_made w a) (with_past (hist (log_of w x)) m)) _ k.1 in
@@ -443,7 +485,7 @@ nothing-where (Ack o took) e i a = cc
 nothing-where (AddAck o) e i a = cc
 nothing-where Text e i a = a
 
-abbrev comes_after : Option Id → Entry → Bool
+abbrev comes_after : Option Id → LogEntry → Bool
 comes_after None (Joined p) = true
 comes_after None (Took p) = true
 comes_after None (Made p t) = answers_nothing p.header.kind
@@ -451,7 +493,7 @@ comes_after (Some o) (Joined p) = false
 comes_after (Some o) (Took p) = false
 comes_after (Some o) (Made p t) = answers p.header.kind o
 
-after-where : (o : Option Id) (e : Entry) → comes_after o e ≡ true → Follows o e
+after-where : (o : Option Id) (e : LogEntry) → comes_after o e ≡ true → Follows o e
 after-where None (Joined p) e = tt
 after-where None (Took p) e = tt
 after-where None (Made p t) e = nothing-where p.header.kind e
@@ -469,21 +511,21 @@ at_once-where (f ∷ l) e = let k = both-true (comes_after (waiting l) f) (at_on
     (after-where (waiting l) f k.0, at_once-where l k.1)
 
 -- the last welcome of a member
-abbrev welcome_here : Id → Entry → Id → Option Packet → Option Packet
+abbrev welcome_here : Id → LogEntry → Id → Option Packet → Option Packet
 welcome_here who (Joined p) x older = elim (bytes_eq who x) [ true ↦ Some p | false ↦ older ]
 welcome_here who (Took p) x older = older
 welcome_here who (Made p t) x older = older
 
-abbrev pub welcome_of : World → Id → Option Packet
+abbrev pub welcome_of : Turns → Id → Option Packet
 welcome_of [] x = None
 welcome_of (u ∷ w) x = welcome_here u.who u.entry x (welcome_of w x)
 
-pub welcome-where : (w : World) (x : Id) (p : Packet) → welcome_of w x ≡ Some p → (v : World) × Moment w x (Joined p) v
+pub welcome-where : (w : Turns) (x : Id) (p : Packet) → welcome_of w x ≡ Some p → (v : Turns) × Moment w x (Joined p) v
 welcome-where [] x p e = cc
 welcome-where (u ∷ w) x p e = by u.who u.entry (λ d. welcome-where w x p d) e
   where
-    by : (y : Id) (f : Entry) → (welcome_of w x ≡ Some p → (v : World) × Moment w x (Joined p) v) → welcome_here y f x (welcome_of w x) ≡ Some p
-        → (v : World) × Moment (record { who = y; entry = f } ∷ w) x (Joined p) v
+    by : (y : Id) (f : LogEntry) → (welcome_of w x ≡ Some p → (v : Turns) × Moment w x (Joined p) v) → welcome_here y f x (welcome_of w x) ≡ Some p
+        → (v : Turns) × Moment (record { who = y; entry = f } ∷ w) x (Joined p) v
     by y (Took q) k e = let m = k e in (m.0, once m.1)
     by y (Made q t) k e = let m = k e in (m.0, once m.1)
     by y (Joined q) k e = elim (test (bytes_eq y x)) [

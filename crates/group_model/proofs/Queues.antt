@@ -5,25 +5,28 @@ use Rattle.group_model.specs.Sets.{Id, In, here, there, Bytes}
 use Rattle.group_model.specs.Messages.{Kind, Create, Update, Remove, Add, Ack, AddAck, Text, Message, History, past, Stands, with_past}
 use Rattle.group_model.specs.Membership.{Names, Named}
 use Rattle.group_model.specs.Primitives.{KeyPair, Content, Primitives}
-use Rattle.group_model.specs.Pairing.{Part, Draws, Event, draws, content_of, IsTested, Sending, Sends, Joint, start, a_sends, b_sends, b_takes, a_takes}
-use Rattle.group_model.specs.Steps.{card_of, Packet, Entry, Joined, Took, Made, packet_of, header_of, Log, hist, part_for, Setting, Given}
-use Rattle.group_model.specs.Knowledge.{heard, heard_part, sent_part, with_opened, with_draws, events, payload, payload_in}
-use Rattle.group_model.specs.Packets.{part_with, IsDue}
-use Rattle.group_model.specs.SharedSecrets.{World, log_of, Moment, now, once}
-use Rattle.group_model.specs.Worlds.{WasMade, Makes, MayLeave, IsLawful}
-use Rattle.group_model.proofs.ListFacts.{In-nothing, In-cases, In-head}
+use Rattle.group_model.specs.Pairing.{Part, Draws, PairEvent, draws, content_of, IsTested, Sending, Sends, Joint, start, a_sends, b_sends, b_takes, a_takes}
+use Rattle.group_model.specs.Settings.{card_of, Setting}
+use Rattle.group_model.specs.Packets.{Packet, part_for, Given}
+use Rattle.group_model.specs.Logs.{LogEntry, Joined, Took, Made, packet_of, header_of, Log, hist}
+use Rattle.group_model.specs.Knowledge.{heard, heard_part, sent_part, with_opened, with_draws, payload_in}
+use Rattle.group_model.specs.Worlds.{Turns, log_of, Moment, now, once}
+use Rattle.group_model.specs.LawfulWorlds.{WasMade, MayLeave, IsLawful}
+use Rattle.group_model.proofs.InSetting.{events, payload, part_with, IsDue, Makes}
+use Rattle.group_model.proofs.ListFacts.{In-nothing, In-cases, In-head, other_id, equal_id}
 use Rattle.group_model.proofs.Pasts.{past-within, past-apart, deps-stand}
 use Rattle.group_model.proofs.Valids.{past-self}
 use Rattle.group_model.proofs.Views.{same_or_not}
-use Rattle.group_model.proofs.Worlds.{makes_all, own, apart, log_case, log-own, log-none, moment_now, Good, good, hist-more, lawful_at, hist-since, header-stands, MadeIn, MadeIn-since, clean_on}
-use Rattle.group_model.proofs.Latest.{other_id, equal_id, moment_on, joins_only, WhenMade, past_forth, row_unnamed}
+use Rattle.group_model.proofs.Worlds.{makes_all, own, apart, log_case, log-own, log-none, moment_now, Good, good, hist-more, lawful_at, hist-since, header-stands, MadeIn, MadeIn-since, clean_on, inside_at}
+use Rattle.group_model.proofs.Latest.{moment_on, joins_only, WhenMade, past_forth, row_unnamed}
 use Rattle.group_model.proofs.Agreement.{and_then, SameMoment, one_moment, as_entry, as_row, stood, sender_is}
 use Rattle.group_model.proofs.Pairs.{opens_for_a}
 use Rattle.group_model.proofs.Parts.{gives, gives_none, present, PartFor, only_due, each_due}
 use Rattle.group_model.proofs.Steps.{Pays, past_here, RowsClean, Cl, entry_made, hist_under}
+use Rattle.group_model.proofs.Knowing.{events-none as none_events, events-joined as joined_events, events-took as took_events, events-made as made_events}
 
 -- the two members may be exchanged
-pub flip : {K : Primitives} {a b : KeyPair} {ea eb : List Event} {qa qb : List Sending} → Joint K a b ea eb qa qb → Joint K b a eb ea qb qa
+pub flip : {K : Primitives} {a b : KeyPair} {ea eb : List PairEvent} {qa qb : List Sending} → Joint K a b ea eb qa qb → Joint K b a eb ea qb qa
 flip (start p q) = start q p
 flip (a_sends d v s k j) = b_sends d v s k (flip j)
 flip (b_sends d v s k j) = a_sends d v s k (flip j)
@@ -49,10 +52,10 @@ draws-tested K random y d e = elim (present (K.make (K.derive random (codes "own
 ]
 
 module _ (G : Setting) where
-  abbrev Law : World → Type 0
+  abbrev Law : Turns → Type 0
   Law = IsLawful G
 
-  abbrev H : World → Id → History
+  abbrev H : Turns → Id → History
   H w x = hist (log_of w x)
 
   -- a part that is due has one payload
@@ -115,9 +118,9 @@ module _ (G : Setting) where
         → Unread s x h l q → Unread s x h (Made p t ∷ l) (q ++ z ∷ [])
 
   -- an entry of a log
-  data Among : Entry → Log → Type 0 where
-    first : {e : Entry} {l : Log} → Among e (e ∷ l)
-    further : {e f : Entry} {l : Log} → Among e l → Among e (f ∷ l)
+  data Among : LogEntry → Log → Type 0 where
+    first : {e : LogEntry} {l : Log} → Among e (e ∷ l)
+    further : {e f : LogEntry} {l : Log} → Among e l → Among e (f ∷ l)
 
   -- the same histories as far as these messages go
   Unread-same : {s x : Id} {h k : History} {l : Log} {q : List Sending} → Unread s x h l q → ((p : Packet) (t : Given) → Among (Made p t) l → Stands h p.header.id → Stands k p.header.id)
@@ -159,7 +162,7 @@ module _ (G : Setting) where
   taken_here s x h h' l p t q (u_no_part n d u) fresh now' base = no_part_taken d (subst (λ z. Unread s x h' (Made p t ∷ l) z) (sym (base q u)) (u_read now'))
   taken_here s x h h' l p t q (u_part {q = q0} n z k u) fresh now' base = part_taken [] z k (ap (λ y. y ++ z ∷ []) (base q0 u)) (u_read now')
 
-  taken_over : (s x : Id) (h h' : History) (f : Entry) (l : Log) (q : List Sending) (p : Packet) (t : Given) (l1 : Log) → Unread s x h (f ∷ l) q → ((p' : Packet) (t' : Given) → f ≡ Made p' t' → Stands h' p'.header.id → ⊥)
+  taken_over : (s x : Id) (h h' : History) (f : LogEntry) (l : Log) (q : List Sending) (p : Packet) (t : Given) (l1 : Log) → Unread s x h (f ∷ l) q → ((p' : Packet) (t' : Given) → f ≡ Made p' t' → Stands h' p'.header.id → ⊥)
       → ((i : Id) → Stands h i → Stands h' i) → ((q1 : List Sending) → Unread s x h l q1 → Taken s x h' l q1 p t l1) → Taken s x h' (f ∷ l) q p t l1
   taken_over s x h h' f l q p t l1 (u_joined u) new up go = elim (go q u) [
     | no_part_taken d u' ↦ no_part_taken d (u_joined u')
@@ -179,9 +182,9 @@ module _ (G : Setting) where
     | part_taken q' z k e u' ↦ part_taken (q' ++ z' ∷ []) z k (ap (λ y. y ++ z' ∷ []) e) (u_part (new p' t' refl) z' k' u')
   ]
 
-  take : (s x : Id) (h h' : History) (p : Packet) (t : Given) {w v : World} {e : Entry} → Moment w s e v → e ≡ Made p t → Law w → (q : List Sending) → Unread s x h (log_of w s) q
+  take : (s x : Id) (h h' : History) (p : Packet) (t : Given) {w v : Turns} {e : LogEntry} → Moment w s e v → e ≡ Made p t → Law w → (q : List Sending) → Unread s x h (log_of w s) q
       → (Stands h p.header.id → ⊥) → Stands h' p.header.id → ((i : Id) → Stands h i → Stands h' i) → ((q1 : List Sending) → Unread s x h (log_of v s) q1 → q1 ≡ [])
-      → ((p' : Packet) (t' : Given) (v' : World) → Moment w s (Made p' t') v' → In p.header (H v' s) → Stands h' p'.header.id → ⊥) → Taken s x h' (log_of w s) q p t (log_of v s)
+      → ((p' : Packet) (t' : Given) (v' : Turns) → Moment w s (Made p' t') v' → In p.header (H v' s) → Stands h' p'.header.id → ⊥) → Taken s x h' (log_of w s) q p t (log_of v s)
   take s x h h' p t (now {w = w} {e = e}) d l q u fresh now' up base new =
       let f : log_of (and_then s e w) s ≡ Made p t ∷ log_of w s = log-own s e w ∙ ap (λ z. z ∷ log_of w s) d in
       subst (λ z. Taken s x h' z q p t (log_of w s)) (sym f) (taken_here s x h h' (log_of w s) p t q (subst (λ z. Unread s x h z q) f u) fresh now' base)
@@ -194,11 +197,11 @@ module _ (G : Setting) where
   ]
 
   -- an entry of a log has its moment
-  record Since (w : World) (y : Id) (e : Entry) : Type 0 where
-    world : World
+  record Since (w : Turns) (y : Id) (e : LogEntry) : Type 0 where
+    world : Turns
     moment : Moment w y e world
 
-  among_since : (w : World) (y : Id) {e : Entry} → Among e (log_of w y) → Since w y e
+  among_since : (w : Turns) (y : Id) {e : LogEntry} → Among e (log_of w y) → Since w y e
   among_since [] y {e} a = absurd (nothing (subst (λ z. Among e z) (log-none y) a))
     where
       nothing : Among e [] → ⊥
@@ -211,7 +214,7 @@ module _ (G : Setting) where
       further_one : Since w y e → Since (u ∷ w) y e
       further_one s = record { world = s.world; moment = once s.moment }
 
-      at_front : {f : Entry} {l : Log} → Among e (f ∷ l) → (f ≡ e) ⊎ Among e l
+      at_front : {f : LogEntry} {l : Log} → Among e (f ∷ l) → (f ≡ e) ⊎ Among e l
       at_front first = inl refl
       at_front (further b) = inr b
 
@@ -222,21 +225,21 @@ module _ (G : Setting) where
       ]
 
   -- a message of a member that stands in a history was made
-  made_here : (w : World) → Law w → (y : Id) → RowsClean G w y → {a : Message} → In a (H w y) → In a.sender G.members → MadeIn G w a
+  made_here : (w : Turns) → Law w → (y : Id) → RowsClean G w y → {a : Message} → In a (H w y) → In a.sender G.members → MadeIn G w a
   made_here w l y rc {a} i ins = elim (stood G w y i) [
     | as_entry f b mf e ↦ subst (λ z. MadeIn G w z) e (entry_made G l mf (subst (λ (z : Message). In z.sender G.members) (sym e) ins))
     | as_row p0 v0 m0 j ↦ MadeIn-since G m0 (rc.rows p0 v0 m0 a j)
   ]
 
-  RowsClean-back : {w v : World} {z y : Id} {e : Entry} → Moment w z e v → RowsClean G w y → RowsClean G v y
+  RowsClean-back : {w v : Turns} {z y : Id} {e : LogEntry} → Moment w z e v → RowsClean G w y → RowsClean G v y
   RowsClean-back m rc = record { rows = λ p0 v0 m0 a i. rc.rows p0 v0 (moment_on m m0) a i }
 
   -- a message that is made now stands in no history before
-  not_yet : (x : Id) (p : Packet) (t : Given) (w : World) → Law (and_then x (Made p t) w) → (y : Id) → RowsClean G w y → Stands (H w y) p.header.id → ⊥
+  not_yet : (x : Id) (p : Packet) (t : Given) (w : Turns) → Law (and_then x (Made p t) w) → (y : Id) → RowsClean G w y → Stands (H w y) p.header.id → ⊥
   not_yet x p t w l y rc s =
       let here_it : In p.header (H (and_then x (Made p t) w) x) = header-stands G {e = Made p t} l now in
       let same : s.by ≡ p.header = l.1.same y x s.by p.header (hist-more G _ w l y s.there_is) here_it s.has_id in
-      let ins : In s.by.sender G.members = subst (λ z. In z G.members) (sym (ap (λ (z : Message). z.sender) same ∙ l.0.sender)) l.0.inside in
+      let ins : In s.by.sender G.members = subst (λ z. In z G.members) (sym (ap (λ (z : Message). z.sender) same ∙ l.0.sender)) l.3 in
       let made : MadeIn G w s.by = made_here w l.2 y rc s.there_is ins in
       let k : Moment w x (Made made.packet made.given) made.before = subst (λ z. Moment w z (Made made.packet made.given) made.before) (ap (λ (z : Message). z.sender) same ∙ l.0.sender) made.moment in
       l.0.history.1 (record { by = made.packet.header; there_is = header-stands G l.2 k; has_id = ap (λ (z : Message). z.id) (made.is ∙ same) })
@@ -253,29 +256,25 @@ module _ (G : Setting) where
   PairOf-flip p = record { qx = p.qy; qy = p.qx; joint = flip p.joint; to_y = p.to_x; to_x = p.to_y }
 
   events-none : (x y : Id) → events G x y [] ≡ []
-  unfolding events
-  events-none x y = refl
+  events-none x y = none_events G.primitives (card_of G x) x y
 
-  events-made : (x y : Id) (p : Packet) (t : Given) (l : Log) → events G x y (Made p t ∷ l) ≡ sent_part G y t (part_for p.parts y) (events G x y l)
-  unfolding events
-  events-made x y p t l = refl
+  events-made : (x y : Id) (p : Packet) (t : Given) (l : Log) → events G x y (Made p t ∷ l) ≡ sent_part G.primitives y t (part_for p.parts y) (events G x y l)
+  events-made x y p t l = made_events G.primitives (card_of G x) x y p t l
 
-  events-took : (x y : Id) (p : Packet) (l : Log) → events G x y (Took p ∷ l) ≡ heard G x y p (events G x y l)
-  unfolding events
-  events-took x y p l = refl
+  events-took : (x y : Id) (p : Packet) (l : Log) → events G x y (Took p ∷ l) ≡ heard G.primitives (card_of G x) x y p (events G x y l)
+  events-took x y p l = took_events G.primitives (card_of G x) x y p l
 
-  events-joined : (x y : Id) (p : Packet) (l : Log) → events G x y (Joined p ∷ l) ≡ heard G x y p (events G x y l)
-  unfolding events
-  events-joined x y p l = refl
+  events-joined : (x y : Id) (p : Packet) (l : Log) → events G x y (Joined p ∷ l) ≡ heard G.primitives (card_of G x) x y p (events G x y l)
+  events-joined x y p l = joined_events G.primitives (card_of G x) x y p l
 
-  heard-other : (x y : Id) (p : Packet) (es : List Event) → p.header.sender ≢ y → heard G x y p es ≡ es
+  heard-other : (x y : Id) (p : Packet) (es : List PairEvent) → p.header.sender ≢ y → heard G.primitives (card_of G x) x y p es ≡ es
   heard-other x y p es n = rw (other_id p.header.sender y n) refl
 
-  heard-own : (x y : Id) (p : Packet) (es : List Event) → p.header.sender ≡ y → heard G x y p es ≡ heard_part G x y (part_for p.parts x) es
+  heard-own : (x y : Id) (p : Packet) (es : List PairEvent) → p.header.sender ≡ y → heard G.primitives (card_of G x) x y p es ≡ heard_part G.primitives (card_of G x) (part_for p.parts x) es
   heard-own x y p es n = rw (equal_id p.header.sender y n) refl
 
   -- x makes a packet
-  pair_made : (x y : Id) (p : Packet) (t : Given) (w : World) → Law (and_then x (Made p t) w) → x ≢ y → RowsClean G w y → PairOf x y (log_of w x) (log_of w y) → PairOf x y (Made p t ∷ log_of w x) (log_of w y)
+  pair_made : (x y : Id) (p : Packet) (t : Given) (w : Turns) → Law (and_then x (Made p t) w) → x ≢ y → RowsClean G w y → PairOf x y (log_of w x) (log_of w y) → PairOf x y (Made p t ∷ log_of w x) (log_of w y)
   pair_made x y p t w l ne rc k =
       let mk : Makes G x (log_of w x) p t = l.0 in
       let to_x' : Unread y x (p.header ∷ H w x) (log_of w y) k.qy = Unread-same k.to_x
@@ -289,7 +288,7 @@ module _ (G : Setting) where
         | gives_none d ↦ record {
           qx = k.qx;
           qy = k.qy;
-          joint = subst (λ z. Joint G.primitives (card_of G x) (card_of G y) z (events G y x (log_of w y)) k.qx k.qy) (sym (events-made x y p t (log_of w x) ∙ ap (λ z. sent_part G y t z (events G x y (log_of w x))) d)) k.joint;
+          joint = subst (λ z. Joint G.primitives (card_of G x) (card_of G y) z (events G y x (log_of w y)) k.qx k.qy) (sym (events-made x y p t (log_of w x) ∙ ap (λ z. sent_part G.primitives y t z (events G x y (log_of w x))) d)) k.joint;
           to_y = u_no_part (not_yet x p t w l y rc) d k.to_y;
           to_x = to_x';
         }
@@ -301,7 +300,7 @@ module _ (G : Setting) where
               qx = k.qx ++ z ∷ [];
               qy = k.qy;
               joint = subst (λ r. Joint G.primitives (card_of G x) (card_of G y) r (events G y x (log_of w y)) (k.qx ++ z ∷ []) k.qy)
-                  (sym (events-made x y p t (log_of w x) ∙ ap (λ r. sent_part G y t r (events G x y (log_of w x))) a.posted.there_is
+                  (sym (events-made x y p t (log_of w x) ∙ ap (λ r. sent_part G.primitives y t r (events G x y (log_of w x))) a.posted.there_is
                   ∙ ap (λ r. with_draws r (events G x y (log_of w x))) a.posted.drawn))
                   (a_sends a.posted.d a.posted.value z a.posted.sent k.joint);
               to_y = u_part (not_yet x p t w l y rc) z a.posted k.to_y;
@@ -310,14 +309,14 @@ module _ (G : Setting) where
       ]
 
   -- after a packet of y was taken from what was under way
-  pair_heard : (x y : Id) (p : Packet) (t : Given) (lx lx' ly l1 : Log) → p.header.sender ≡ y → events G x y lx' ≡ heard G x y p (events G x y lx)
+  pair_heard : (x y : Id) (p : Packet) (t : Given) (lx lx' ly l1 : Log) → p.header.sender ≡ y → events G x y lx' ≡ heard G.primitives (card_of G x) x y p (events G x y lx)
       → (k : PairOf x y lx ly) → Unread x y (hist ly) lx' k.qx → Taken y x (hist lx') ly k.qy p t l1 → PairOf x y lx' ly
   pair_heard x y p t lx lx' ly l1 s e k to_y' (no_part_taken d u) = record {
     qx = k.qx;
     qy = k.qy;
     to_y = to_y';
     to_x = u;
-    joint = subst (λ z. Joint G.primitives (card_of G x) (card_of G y) z (events G y x ly) k.qx k.qy) (sym (e ∙ heard-own x y p (events G x y lx) s ∙ ap (λ z. heard_part G x y z (events G x y lx)) d)) k.joint;
+    joint = subst (λ z. Joint G.primitives (card_of G x) (card_of G y) z (events G y x ly) k.qx k.qy) (sym (e ∙ heard-own x y p (events G x y lx) s ∙ ap (λ z. heard_part G.primitives (card_of G x) z (events G x y lx)) d)) k.joint;
   }
   pair_heard x y p t lx lx' ly l1 s e k to_y' (part_taken q' z a f u) =
       let j : Joint G.primitives (card_of G x) (card_of G y) (events G x y lx) (events G y x ly) k.qx (z ∷ q') = subst (λ r. Joint G.primitives (card_of G x) (card_of G y) (events G x y lx) (events G y x ly) k.qx r) f k.joint in
@@ -327,12 +326,12 @@ module _ (G : Setting) where
         to_y = to_y';
         to_x = u;
         joint = subst (λ r. Joint G.primitives (card_of G x) (card_of G y) r (events G y x ly) k.qx q')
-            (sym (e ∙ heard-own x y p (events G x y lx) s ∙ ap (λ r. heard_part G x y r (events G x y lx)) a.there_is
+            (sym (e ∙ heard-own x y p (events G x y lx) s ∙ ap (λ r. heard_part G.primitives (card_of G x) r (events G x y lx)) a.there_is
             ∙ ap (λ r. with_opened z.part r (events G x y lx)) (opens_for_a G.primitives z j))) (a_takes z j);
       }
 
   -- the packet that x takes from y, out of what is under way
-  take_took : (x : Id) (p : Packet) (w : World) (l : Law (and_then x (Took p) w)) (t : Given) (v : World) → Moment w p.header.sender (Made p t) v → (q : List Sending) → Unread p.header.sender x (H w x) (log_of w p.header.sender) q
+  take_took : (x : Id) (p : Packet) (w : Turns) (l : Law (and_then x (Took p) w)) (t : Given) (v : Turns) → Moment w p.header.sender (Made p t) v → (q : List Sending) → Unread p.header.sender x (H w x) (log_of w p.header.sender) q
       → Taken p.header.sender x (p.header ∷ H w x) (log_of w p.header.sender) q p t (log_of v p.header.sender)
   take_took x p w l t v k q u =
       let fresh : Stands (H w x) p.header.id → ⊥ = l.0.0.history.1 in
@@ -359,7 +358,7 @@ module _ (G : Setting) where
         | inr j ↦ fresh (record { by = p.header; has_id = refl; there_is = past-within (H w x) p'.header.predecessors (past_forth G {e = Made p' t'} l.2 m x (subst (λ z. In z (H w x)) same j) (makes_all G mk p.header i)) })
       ])
 
-  pair_took : (x y : Id) (p : Packet) (w : World) → Law (and_then x (Took p) w) → x ≢ y → In y G.members → PairOf x y (log_of w x) (log_of w y) → PairOf x y (Took p ∷ log_of w x) (log_of w y)
+  pair_took : (x y : Id) (p : Packet) (w : Turns) → Law (and_then x (Took p) w) → x ≢ y → In y G.members → PairOf x y (log_of w x) (log_of w y) → PairOf x y (Took p ∷ log_of w x) (log_of w y)
   pair_took x y p w l ne iy k = elim (same_or_not p.header.sender y) [
     | inl s ↦ let wm : WasMade w p = l.0.1.made (subst (λ z. In z G.members) (sym s) iy) in pair_heard x y p wm.given (log_of w x) (Took p ∷ log_of w x) (log_of w y) (log_of wm.before y) s (events-took x y p (log_of w x)) k (u_took k.to_y)
         (subst (λ z. Unread z x (H w x) (log_of w z) k.qy → Taken z x (p.header ∷ H w x) (log_of w z) k.qy p wm.given (log_of wm.before z)) s
@@ -382,7 +381,7 @@ module _ (G : Setting) where
   ]
 
   -- what a row's maker sent holds no part for who joins
-  no_part_in_rows : (x : Id) (p : Packet) (w : World) (l : Law (and_then x (Joined p) w)) {y : Id} {v : World} (q : Packet) (r : Given) → Moment w y (Made q r) v → In q.header p.rows → part_for q.parts x ≡ None
+  no_part_in_rows : (x : Id) (p : Packet) (w : Turns) (l : Law (and_then x (Joined p) w)) {y : Id} {v : Turns} (q : Packet) (r : Given) → Moment w y (Made q r) v → In q.header p.rows → part_for q.parts x ≡ None
   no_part_in_rows x p w l {y} {v} q r m i = elim (present (part_for q.parts x)) [
     | gives_none d ↦ d
     | gives part d ↦
@@ -414,9 +413,9 @@ module _ (G : Setting) where
   ]
 
   -- an entry with what came before it
-  data Ends (e : Entry) (l1 : Log) : Log → Type 0 where
+  data Ends (e : LogEntry) (l1 : Log) : Log → Type 0 where
     ends : Ends e l1 (e ∷ l1)
-    ends_on : {f : Entry} {l : Log} → Ends e l1 l → Ends e l1 (f ∷ l)
+    ends_on : {f : LogEntry} {l : Log} → Ends e l1 l → Ends e l1 (f ∷ l)
 
   -- rows with no part for x leave what is under way
   Unread-rows : {s x : Id} {h h' : History} {l : Log} {q : List Sending} → Unread s x h l q → ((p : Packet) (t : Given) → Among (Made p t) l → Stands h p.header.id → ⊥)
@@ -434,12 +433,12 @@ module _ (G : Setting) where
     | inr o ↦ u_part o z k (Unread-rows u (λ p t a. f p t (further a)) (λ p t l2 a. g p t l2 (ends_on a)))
   ]
 
-  record SinceLog (w : World) (y : Id) (e : Entry) (l1 : Log) : Type 0 where
-    world : World
+  record SinceLog (w : Turns) (y : Id) (e : LogEntry) (l1 : Log) : Type 0 where
+    world : Turns
     moment : Moment w y e world
     log : log_of world y ≡ l1
 
-  ends_since : (w : World) (y : Id) {e : Entry} {l1 : Log} → Ends e l1 (log_of w y) → SinceLog w y e l1
+  ends_since : (w : Turns) (y : Id) {e : LogEntry} {l1 : Log} → Ends e l1 (log_of w y) → SinceLog w y e l1
   ends_since [] y {e} {l1} a = absurd (nothing (subst (λ z. Ends e l1 z) (log-none y) a))
     where
       nothing : Ends e l1 [] → ⊥
@@ -455,11 +454,11 @@ module _ (G : Setting) where
       further_one : SinceLog w y e l1 → SinceLog (u ∷ w) y e l1
       further_one s = record { world = s.world; moment = once s.moment; log = s.log }
 
-      at_front : {f : Entry} {l : Log} → Ends e l1 (f ∷ l) → ((f ≡ e) × (l ≡ l1)) ⊎ Ends e l1 l
+      at_front : {f : LogEntry} {l : Log} → Ends e l1 (f ∷ l) → ((f ≡ e) × (l ≡ l1)) ⊎ Ends e l1 l
       at_front ends = inl (refl, refl)
       at_front (ends_on b) = inr b
 
-  take_joined : (x : Id) (p : Packet) (w : World) (l : Law (and_then x (Joined p) w)) → RowsClean G w p.header.sender → (t : Given) (v : World) → Moment w p.header.sender (Made p t) v → (q : List Sending) → Unread p.header.sender x (H w x) (log_of w p.header.sender) q
+  take_joined : (x : Id) (p : Packet) (w : Turns) (l : Law (and_then x (Joined p) w)) → RowsClean G w p.header.sender → (t : Given) (v : Turns) → Moment w p.header.sender (Made p t) v → (q : List Sending) → Unread p.header.sender x (H w x) (log_of w p.header.sender) q
       → Taken p.header.sender x (p.header ∷ p.rows) (log_of w p.header.sender) q p t (log_of v p.header.sender)
   take_joined x p w l rc t v k q u =
       let nothing : (a : Message) → In a (H w x) → ⊥ = λ a i. In-nothing (subst (λ z. In a (hist z)) l.0.0.fresh i) in
@@ -477,13 +476,13 @@ module _ (G : Setting) where
         | inl e ↦ mk'.history.1 (record { by = p.header; there_is = i; has_id = ap (λ (z : Message). z.id) (sym e ∙ same) })
         | inr j ↦
             let old : In p'.header (H v p.header.sender) = subst (λ z. In z (H v p.header.sender)) same (subst (λ z. In s.by z) (mk.rows x l.0.0.adds) j) in
-            let made : MadeIn G v p'.header = made_here v lv p.header.sender (RowsClean-back k rc) old (subst (λ z. In z G.members) (sym (sender_is G m l.2)) mk.inside) in
+            let made : MadeIn G v p'.header = made_here v lv p.header.sender (RowsClean-back k rc) old (subst (λ z. In z G.members) (sym (sender_is G m l.2)) (inside_at G l.2 k)) in
             let m2 : Moment v p.header.sender (Made made.packet made.given) made.before = subst (λ z. Moment v z (Made made.packet made.given) made.before) (sender_is G m l.2) made.moment in
             let one : SameMoment G made.packet p' made.given t' made.before v' = one_moment G (moment_on k m2) m l.2 made.is in
             mk.history.1 (record { by = p.header; has_id = refl; there_is = hist-since G lv m2 p.header.sender (subst (λ z. In p.header (H z p.header.sender)) (sym one.worlds) i) })
       ])
 
-  pair_joined : (x y : Id) (p : Packet) (w : World) → Law (and_then x (Joined p) w) → x ≢ y → In y G.members → RowsClean G w y → PairOf x y (log_of w x) (log_of w y) → PairOf x y (Joined p ∷ log_of w x) (log_of w y)
+  pair_joined : (x y : Id) (p : Packet) (w : Turns) → Law (and_then x (Joined p) w) → x ≢ y → In y G.members → RowsClean G w y → PairOf x y (log_of w x) (log_of w y) → PairOf x y (Joined p ∷ log_of w x) (log_of w y)
   pair_joined x y p w l ne iy rc k = elim (same_or_not p.header.sender y) [
     | inl s ↦ let wm : WasMade w p = l.0.1.made (subst (λ z. In z G.members) (sym s) iy) in pair_heard x y p wm.given (log_of w x) (Joined p ∷ log_of w x) (log_of w y) (log_of wm.before y) s (events-joined x y p (log_of w x)) k (u_joined k.to_y)
         (subst (λ z. Unread z x (H w x) (log_of w z) k.qy → Taken z x (p.header ∷ p.rows) (log_of w z) k.qy p wm.given (log_of wm.before z)) s
@@ -500,11 +499,11 @@ module _ (G : Setting) where
       at_front : (q : Packet) (r : Given) (q2 : Packet) (r2 : Given) (l2 : Log) → Among (Made q2 r2) (Made q r ∷ l2) → (q2 ≡ q) ⊎ Among (Made q2 r2) l2
       at_front q r q2 r2 l2 b = split b refl
         where
-          split : {e : Entry} {l3 : Log} → Among e (Made q r ∷ l3) → e ≡ Made q2 r2 → (q2 ≡ q) ⊎ Among (Made q2 r2) l3
+          split : {e : LogEntry} {l3 : Log} → Among e (Made q r ∷ l3) → e ≡ Made q2 r2 → (q2 ≡ q) ⊎ Among (Made q2 r2) l3
           split first d = inl (let f : Made q r ≡ Made q2 r2 = d in cc)
           split {l3 = l3} (further c') d = inr (subst (λ z. Among z l3) d c')
 
-      in_rows : p.header.sender ≢ y → (q : Packet) (r : Given) (v : World) → Moment w y (Made q r) v → Stands (p.header ∷ p.rows) q.header.id → In q.header p.rows
+      in_rows : p.header.sender ≢ y → (q : Packet) (r : Given) (v : Turns) → Moment w y (Made q r) v → Stands (p.header ∷ p.rows) q.header.id → In q.header p.rows
       in_rows n q r v m s =
           let same : s.by ≡ q.header = l.1.same x y s.by q.header (subst (λ z. In s.by (hist z)) (sym (log-own x (Joined p) w)) s.there_is) (hist-more G _ w l y (header-stands G l.2 m)) s.has_id in
           elim (In-cases s.there_is) [
@@ -529,13 +528,13 @@ module _ (G : Setting) where
                 no_part_in_rows x p w l q2 r2 (moment_on si.moment s2.moment) up
           ]
 
-  pair_turn : (x y : Id) (e : Entry) (w : World) → Law (and_then x e w) → x ≢ y → In y G.members → RowsClean G w y → PairOf x y (log_of w x) (log_of w y) → PairOf x y (e ∷ log_of w x) (log_of w y)
+  pair_turn : (x y : Id) (e : LogEntry) (w : Turns) → Law (and_then x e w) → x ≢ y → In y G.members → RowsClean G w y → PairOf x y (log_of w x) (log_of w y) → PairOf x y (e ∷ log_of w x) (log_of w y)
   pair_turn x y (Joined p) w l ne iy rc k = pair_joined x y p w l ne iy rc k
   pair_turn x y (Took p) w l ne iy rc k = pair_took x y p w l ne iy k
   pair_turn x y (Made p t) w l ne iy rc k = pair_made x y p t w l ne rc k
 
   -- each two members of a world
-  pair_of : (w : World) → Law w → (x y : Id) → x ≢ y → In x G.members → In y G.members → RowsClean G w x → RowsClean G w y → PairOf x y (log_of w x) (log_of w y)
+  pair_of : (w : Turns) → Law w → (x y : Id) → x ≢ y → In x G.members → In y G.members → RowsClean G w x → RowsClean G w y → PairOf x y (log_of w x) (log_of w y)
   pair_of [] l x y ne ix iy rx ry = subst (λ z. PairOf x y z (log_of [] y)) (sym (log-none x)) (subst (λ z. PairOf x y [] z) (sym (log-none y))
       (record {
         qx = [];
@@ -562,17 +561,17 @@ module _ (G : Setting) where
       ]
 
   -- who has made a message joined before it
-  joined_of : {w v u : World} {s s' : Id} {p : Packet} {q : Packet} {r : Given} {e f : Entry} → Moment w s e v → Moment w s' f u → Law w → s ≡ s' → e ≡ Joined p → f ≡ Made q r → Moment u s e v
+  joined_of : {w v u : Turns} {s s' : Id} {p : Packet} {q : Packet} {r : Given} {e f : LogEntry} → Moment w s e v → Moment w s' f u → Law w → s ≡ s' → e ≡ Joined p → f ≡ Made q r → Moment u s e v
   joined_of now now l n d g = absurd (let h : Joined _ ≡ Made _ _ = sym d ∙ g in cc)
   joined_of {s' = s'} {f = f} (now {x = x} {w = w}) (once m) l n d g =
       absurd (no_log w x l.0 d (subst (λ z. In (header_of f) (H w z)) (sym n) (header-stands G l.2 m)))
     where
-      no_log : (w : World) (x : Id) {k : Entry} {p : Packet} {a : Message} → MayLeave G w x k → k ≡ Joined p → In a (H w x) → ⊥
+      no_log : (w : Turns) (x : Id) {k : LogEntry} {p : Packet} {a : Message} → MayLeave G w x k → k ≡ Joined p → In a (H w x) → ⊥
       no_log w x {k} {p} {a} fits d i = let j = subst (λ z. MayLeave G w x z) d fits in In-nothing (subst (λ z. In a (hist z)) j.0.fresh i)
   joined_of (once m) now l n d g = m
   joined_of (once m) (once k) l n d g = joined_of m k l.2 n d g
 
-  rows_of_maker : {w u : World} {s : Id} {q : Packet} {r : Given} → Law w → Moment w s (Made q r) u → Cl G u s → RowsClean G w s
+  rows_of_maker : {w u : Turns} {s : Id} {q : Packet} {r : Given} → Law w → Moment w s (Made q r) u → Cl G u s → RowsClean G w s
   rows_of_maker {w} {u} {s} l k cu = record {
     rows = λ p1 v1 m1 a i.
         let lu : Law u = (lawful_at G l k).1 in
@@ -583,30 +582,30 @@ module _ (G : Setting) where
   }
 
   -- each part opens to its payload
-  pays_taken : (x : Id) (p : Packet) (w : World) (h : History) → (t : Given) (u : World) → (k : PairOf x p.header.sender (log_of w x) (log_of w p.header.sender)) → Taken p.header.sender x h (log_of w p.header.sender) k.qy p t (log_of u p.header.sender)
+  pays_taken : (x : Id) (p : Packet) (w : Turns) (h : History) → (t : Given) (u : Turns) → (k : PairOf x p.header.sender (log_of w x) (log_of w p.header.sender)) → Taken p.header.sender x h (log_of w p.header.sender) k.qy p t (log_of u p.header.sender)
       → (mk : Makes G p.header.sender (log_of u p.header.sender) p t) → (b : Bytes)
       → IsDue G p.header.sender (log_of u p.header.sender) p.header t p.header.kind x b → payload G x (log_of w x) p ≡ Some b
   pays_taken x p w h t u k (no_part_taken d un) mk b due = (let o = each_due G mk x b due in let e : None ≡ Some o.part = sym d ∙ o.there_is in cc)
   pays_taken x p w h t u k (part_taken q' z a f un) mk b due =
       let j : Joint G.primitives (card_of G x) (card_of G p.header.sender) (events G x p.header.sender (log_of w x)) (events G p.header.sender x (log_of w p.header.sender)) k.qx (z ∷ q') =
       subst (λ r. Joint G.primitives (card_of G x) (card_of G p.header.sender) (events G x p.header.sender (log_of w x)) (events G p.header.sender x (log_of w p.header.sender)) k.qx r) f k.joint in
-      ap (payload_in G x (events G x p.header.sender (log_of w x))) a.there_is
+      ap (payload_in G.primitives (card_of G x) (events G x p.header.sender (log_of w x))) a.there_is
       ∙ ap (option_map (λ (o : Content). o.payload)) (opens_for_a G.primitives z j)
       ∙ ap (λ (r : Content). Some r.payload) a.sent.content
       ∙ ap (λ r. Some r) (due_one p.header.sender (log_of u p.header.sender) p.header t p.header.kind x a.value b a.due due)
 
-  pub pays : (x : Id) (e : Entry) (w : World) → Law (and_then x e w) → Pays G w x (packet_of e)
+  pub pays : (x : Id) (e : LogEntry) (w : Turns) → Law (and_then x e w) → Pays G w x (packet_of e)
   pays x (Took p) w l = record {
     pays = λ t u m rc cu b due.
         let mk : Makes G p.header.sender (log_of u p.header.sender) p t = (lawful_at G l.2 m).0 in
-        let k : PairOf x p.header.sender (log_of w x) (log_of w p.header.sender) = pair_of w l.2 x p.header.sender (λ z. l.0.0.other (sym z)) l.0.0.inside mk.inside rc (rows_of_maker l.2 m cu) in
+        let k : PairOf x p.header.sender (log_of w x) (log_of w p.header.sender) = pair_of w l.2 x p.header.sender (λ z. l.0.0.other (sym z)) l.3 (inside_at G l.2 m) rc (rows_of_maker l.2 m cu) in
         pays_taken x p w _ t u k (take_took x p w l t u m k.qy k.to_x) mk b due;
   }
   pays x (Joined p) w l = record {
     pays = λ t u m rc cu b due.
         let mk : Makes G p.header.sender (log_of u p.header.sender) p t = (lawful_at G l.2 m).0 in
         let rs : RowsClean G w p.header.sender = rows_of_maker l.2 m cu in
-        let k : PairOf x p.header.sender (log_of w x) (log_of w p.header.sender) = pair_of w l.2 x p.header.sender (λ z. l.0.0.other (sym z)) l.0.0.inside mk.inside rc rs in
+        let k : PairOf x p.header.sender (log_of w x) (log_of w p.header.sender) = pair_of w l.2 x p.header.sender (λ z. l.0.0.other (sym z)) l.3 (inside_at G l.2 m) rc rs in
         pays_taken x p w _ t u k (take_joined x p w l rs t u m k.qy k.to_x) mk b due;
   }
   pays x (Made p t) w l = record {

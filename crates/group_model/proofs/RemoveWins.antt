@@ -1,43 +1,75 @@
 -- "Remove wins" is a membership rule.
-use Rattle.std.proofs.Common.{◌⊎◌, inl, inr, List, [], ◌∷◌, sym, subst, ap, ◌∙◌}
-use Rattle.group_model.specs.Sets.{Id, In, here, there, has, Within}
+use Rattle.std.proofs.Common.{◌≡◌, ◌⊎◌, inl, inr, List, [], ◌∷◌, ◌++◌, sym, subst, ap, ◌∙◌, refl}
+use Rattle.group_model.specs.Sets.{Id, In, here, there, has, Within, IsDistinct}
 use Rattle.group_model.specs.Messages.{Kind, Create, Update, Remove, Add, Ack, AddAck, Text, Message, History}
-use Rattle.group_model.specs.Membership.{Names, Removes, Named, Removed, IsMembershipRule, IsMember, named_by, removed_by, joined, ids_named, ids_removed, without, remove_wins}
-use Rattle.group_model.proofs.ListFacts.{yes_is, no_is, test, has-In, In-has, In-nothing, In-cases}
+use Rattle.group_model.specs.Membership.{Names, Removes, Named, Removed, MovesNobody, IsMembershipRule, IsMember, named_by, removed_by, with_id, joined, ids_named, ids_removed, without, remove_wins}
+use Rattle.group_model.proofs.ListFacts.{yes_is, no_is, test, has-In, In-has, In-nothing, In-cases, In-left, In-right, In-either, In-head}
 use Rattle.group_model.proofs.Views.{Named-within}
 
 -- what is joined stands in the one list or in the other
-pub joined-left : (ids others : List Id) {x : Id} → In x ids → In x (joined ids others)
-joined-left [] others i = elim i [ ]
-joined-left (y ∷ ids) others here = elim (test (has (joined ids others) y)) [
-  | yes_is e ↦ rw e (has-In (joined ids others) y e)
-  | no_is e ↦ rw e here
-]
-joined-left (y ∷ ids) others (there i) = elim (test (has (joined ids others) y)) [
-  | yes_is e ↦ rw e (joined-left ids others i)
-  | no_is e ↦ rw e (there (joined-left ids others i))
+pub with_id-left : (ids : List Id) (i : Id) {x : Id} → In x ids → In x (with_id ids i)
+with_id-left ids i k = elim (test (has ids i)) [
+  | yes_is e ↦ rw e k
+  | no_is e ↦ rw e (In-left (i ∷ []) k)
 ]
 
+pub with_id-right : (ids : List Id) (i : Id) → In i (with_id ids i)
+with_id-right ids i = elim (test (has ids i)) [
+  | yes_is e ↦ rw e (has-In ids i e)
+  | no_is e ↦ rw e (In-right ids here)
+]
+
+pub with_id-either : (ids : List Id) (i : Id) {x : Id} → In x (with_id ids i) → In x ids ⊎ (x ≡ i)
+with_id-either ids i {x} k = elim (test (has ids i)) [
+  | yes_is e ↦ inl (rw e at k)
+  | no_is e ↦ elim (In-either ids (rw e at k)) [
+    | inl j ↦ inl j
+    | inr j ↦ elim (In-cases j) [ inl d ↦ inr d | inr n ↦ absurd (In-nothing n) ]
+  ]
+]
+
+pub joined-left : (ids others : List Id) {x : Id} → In x ids → In x (joined ids others)
+joined-left ids [] k = k
+joined-left ids (i ∷ others) k = joined-left (with_id ids i) others (with_id-left ids i k)
+
 pub joined-right : (ids others : List Id) {x : Id} → In x others → In x (joined ids others)
-joined-right [] others i = i
-joined-right (y ∷ ids) others i = elim (test (has (joined ids others) y)) [
-  | yes_is e ↦ rw e (joined-right ids others i)
-  | no_is e ↦ rw e (there (joined-right ids others i))
+joined-right ids [] k = elim k [ ]
+joined-right ids (i ∷ others) {x} k = elim (In-cases k) [
+  | inl e ↦ joined-left (with_id ids i) others (rw e (with_id-right ids i))
+  | inr j ↦ joined-right (with_id ids i) others j
 ]
 
 pub joined-either : (ids others : List Id) {x : Id} → In x (joined ids others) → In x ids ⊎ In x others
-joined-either [] others i = inr i
-joined-either (y ∷ ids) others {x} i = elim (test (has (joined ids others) y)) [
-  | yes_is e ↦ later (joined-either ids others (rw e at i))
-  | no_is e ↦ elim (In-cases (rw e at i)) [
-    | inl d ↦ inl (subst (λ z. In z (y ∷ ids)) (sym d) here)
-    | inr j ↦ later (joined-either ids others j)
-  ]
+joined-either ids [] k = inl k
+joined-either ids (i ∷ others) k = elim (joined-either (with_id ids i) others k) [
+  | inl j ↦ elim (with_id-either ids i j) [ inl q ↦ inl q | inr e ↦ inr (In-head others e) ]
+  | inr j ↦ inr (there j)
+]
+
+-- no id stands twice
+with_id-distinct : (ids : List Id) (i : Id) → IsDistinct ids → IsDistinct (with_id ids i)
+with_id-distinct ids i d = elim (test (has ids i)) [
+  | yes_is e ↦ rw e d
+  | no_is e ↦ rw e (at_end ids d (λ k. let h = In-has ids i k in cc))
 ]
   where
-    later : In x ids ⊎ In x others → In x (y ∷ ids) ⊎ In x others
-    later (inl k) = inl (there k)
-    later (inr k) = inr k
+    at_end : (ids : List Id) → IsDistinct ids → (In i ids → ⊥) → IsDistinct (ids ++ i ∷ [])
+    at_end [] d n = (In-nothing, tt)
+    at_end (j ∷ ids) d n = (
+      λ k. elim (In-either ids k) [
+        | inl q ↦ d.0 q
+        | inr q ↦ elim (In-cases q) [ inl e ↦ n (rw e here) | inr z ↦ In-nothing z ]
+      ],
+      at_end ids d.1 (λ k. n (there k)),
+    )
+
+pub joined-distinct : (ids others : List Id) → IsDistinct ids → IsDistinct (joined ids others)
+joined-distinct ids [] d = d
+joined-distinct ids (i ∷ others) d = joined-distinct (with_id ids i) others (with_id-distinct ids i d)
+
+pub ids_named-distinct : (h : History) → IsDistinct (ids_named h)
+ids_named-distinct [] = tt
+ids_named-distinct (m ∷ h) = joined-distinct (ids_named h) (named_by m.kind) (ids_named-distinct h)
 
 pub Names-In : (k : Kind) (x : Id) → Names k x → In x (named_by k)
 Names-In (Create members) x n = n
@@ -78,33 +110,33 @@ In-Removes Text x n = elim n [ ]
 -- an id stands in the list of named ids exactly where a message names it
 pub ids_named-Named : (p : History) (x : Id) → In x (ids_named p) → Named p x
 ids_named-Named [] x i = elim i [ ]
-ids_named-Named (m ∷ p) x i = elim (joined-either (named_by m.kind) (ids_named p) i) [
-  | inl j ↦ record { by = m; there_is = here; names = In-Names m.kind x j }
-  | inr j ↦ let n = ids_named-Named p x j in record { by = n.by; there_is = there n.there_is; names = n.names }
+ids_named-Named (m ∷ p) x i = elim (joined-either (ids_named p) (named_by m.kind) i) [
+  | inr j ↦ record { by = m; there_is = here; names = In-Names m.kind x j }
+  | inl j ↦ let n = ids_named-Named p x j in record { by = n.by; there_is = there n.there_is; names = n.names }
 ]
 
 pub Named-ids_named : (p : History) (x : Id) → Named p x → In x (ids_named p)
 Named-ids_named [] x n = elim n.there_is [ ]
 Named-ids_named (m ∷ p) x n = elim (In-cases n.there_is) [
-  | inl e ↦ joined-left (named_by m.kind) (ids_named p)
+  | inl e ↦ joined-right (ids_named p) (named_by m.kind)
       (Names-In m.kind x (subst (λ (z : Message). Names z.kind x) e n.names))
-  | inr j ↦ joined-right (named_by m.kind) (ids_named p)
+  | inr j ↦ joined-left (ids_named p) (named_by m.kind)
       (Named-ids_named p x (record { by = n.by; there_is = j; names = n.names }))
 ]
 
 pub ids_removed-Removed : (p : History) (x : Id) → In x (ids_removed p) → Removed p x
 ids_removed-Removed [] x i = elim i [ ]
-ids_removed-Removed (m ∷ p) x i = elim (joined-either (removed_by m.kind) (ids_removed p) i) [
-  | inl j ↦ record { by = m; there_is = here; removes = In-Removes m.kind x j }
-  | inr j ↦ let n = ids_removed-Removed p x j in record { by = n.by; there_is = there n.there_is; removes = n.removes }
+ids_removed-Removed (m ∷ p) x i = elim (joined-either (ids_removed p) (removed_by m.kind) i) [
+  | inr j ↦ record { by = m; there_is = here; removes = In-Removes m.kind x j }
+  | inl j ↦ let n = ids_removed-Removed p x j in record { by = n.by; there_is = there n.there_is; removes = n.removes }
 ]
 
 pub Removed-ids_removed : (p : History) (x : Id) → Removed p x → In x (ids_removed p)
 Removed-ids_removed [] x n = elim n.there_is [ ]
 Removed-ids_removed (m ∷ p) x n = elim (In-cases n.there_is) [
-  | inl e ↦ joined-left (removed_by m.kind) (ids_removed p)
+  | inl e ↦ joined-right (ids_removed p) (removed_by m.kind)
       (Removes-In m.kind x (subst (λ (z : Message). Removes z.kind x) e n.removes))
-  | inr j ↦ joined-right (removed_by m.kind) (ids_removed p)
+  | inr j ↦ joined-left (ids_removed p) (removed_by m.kind)
       (Removed-ids_removed p x (record { by = n.by; there_is = j; removes = n.removes }))
 ]
 
@@ -156,6 +188,51 @@ out_stays_out p q x w n out m = out (record { named = n; stays = λ r. m.stays (
 pub set_alone : (p q : History) (x : Id) → Within p q → Within q p → IsMember p x → IsMember q x
 set_alone p q x w v m = record { named = Named-within w m.named; stays = λ r. m.stays (Removed-within v r) }
 
+-- who is named, or removed, by no newest message is it by an older one
+pub Named-older : (m : Message) (p : History) (x : Id) → (Names m.kind x → ⊥) → Named (m ∷ p) x → Named p x
+Named-older m p x n k = elim (In-cases k.there_is) [
+  | inl d ↦ absurd (n (subst (λ (z : Message). Names z.kind x) d k.names))
+  | inr j ↦ record { by = k.by; there_is = j; names = k.names }
+]
+
+pub Removed-older : (m : Message) (p : History) (x : Id) → (Removes m.kind x → ⊥) → Removed (m ∷ p) x → Removed p x
+Removed-older m p x n k = elim (In-cases k.there_is) [
+  | inl d ↦ absurd (n (subst (λ (z : Message). Removes z.kind x) d k.removes))
+  | inr j ↦ record { by = k.by; there_is = j; removes = k.removes }
+]
+
+-- of the newest message the kind alone counts
+Named-kind : (m n : Message) (p : History) (x : Id) → m.kind ≡ n.kind → Named (m ∷ p) x → Named (n ∷ p) x
+Named-kind m n p x e k = elim (In-cases k.there_is) [
+  | inl d ↦ record { by = n; there_is = here; names = subst (λ z. Names z x) (ap (λ (z : Message). z.kind) d ∙ e) k.names }
+  | inr j ↦ record { by = k.by; there_is = there j; names = k.names }
+]
+
+Removed-kind : (m n : Message) (p : History) (x : Id) → m.kind ≡ n.kind → Removed (m ∷ p) x → Removed (n ∷ p) x
+Removed-kind m n p x e k = elim (In-cases k.there_is) [
+  | inl d ↦ record { by = n; there_is = here; removes = subst (λ z. Removes z x) (ap (λ (z : Message). z.kind) d ∙ e) k.removes }
+  | inr j ↦ record { by = k.by; there_is = there j; removes = k.removes }
+]
+
+kinds_alone : (m n : Message) (p : History) (x : Id) → m.kind ≡ n.kind → IsMember (m ∷ p) x → IsMember (n ∷ p) x
+kinds_alone m n p x e k = record {
+  named = Named-kind m n p x e k.named;
+  stays = λ r. k.stays (Removed-kind n m p x (sym e) r);
+}
+
+-- a message that names and removes nobody moves nobody
+without_newest : (m : Message) (p : History) (x : Id) → MovesNobody m.kind → IsMember (m ∷ p) x → IsMember p x
+without_newest m p x n k = record {
+  named = Named-older m p x (n.names_nobody x) k.named;
+  stays = λ r. k.stays (Removed-within (record { each = λ j. there j }) r);
+}
+
+with_newest : (m : Message) (p : History) (x : Id) → MovesNobody m.kind → IsMember p x → IsMember (m ∷ p) x
+with_newest m p x n k = record {
+  named = Named-within (record { each = λ j. there j }) k.named;
+  stays = λ r. k.stays (Removed-older m p x (n.removes_nobody x) r);
+}
+
 pub remove_wins-rule : IsMembershipRule remove_wins
 remove_wins-rule = record {
   named = λ p x i. (remove_wins-IsMember p x i).named;
@@ -177,4 +254,10 @@ remove_wins-rule = record {
           | inr j ↦ b.stays (record { by = r.by; there_is = j; removes = r.removes })
         ];
       });
+  newest_id_unread = λ p m i x g h k. IsMember-remove_wins (record m { id = i } ∷ p) x
+      (kinds_alone m (record m { id = i }) p x refl (remove_wins-IsMember (m ∷ p) x k));
+  others_stay = λ p m x g w n. (
+    λ k. IsMember-remove_wins p x (without_newest m p x n (remove_wins-IsMember (m ∷ p) x k)),
+    λ k. IsMember-remove_wins (m ∷ p) x (with_newest m p x n (remove_wins-IsMember p x k)),
+  );
 }

@@ -1,28 +1,28 @@
 -- Rows of the plain program, and the messages that they stand for.
-use Rattle.std.proofs.Common.{Bool, IsTrue, Result, Ok, Err, IfOk, ◌≡◌, ◌≢◌, ℕ, zero, suc, ◌+◌, ◌-◌, ◌<◌, ◌≤◌, false, cond, ◌⊎◌, inl, inr, List, [], ◌∷◌, ◌++◌, refl, sym, ◌∙◌, subst, ap, take, drop, length, get_or, arith, append_assoc, add-one, drop-cons}
+use Rattle.std.proofs.Common.{Bool, IsTrue, Result, Ok, Err, IfOk, ◌≡◌, ◌≢◌, ℕ, zero, suc, ◌+◌, ◌-◌, ◌<◌, ◌≤◌, false, ◌⊎◌, inl, inr, List, [], ◌∷◌, ◌++◌, refl, sym, ◌∙◌, subst, ap, take, drop, length, get_or, arith, append_assoc, add-one, drop-cons}
 use Rattle.std.specs.declared.alloc.AllocError.{AllocError}
 use Rattle.std.proofs.lemmas.List.{take_more, take_all}
 use Rattle.group_model.specs.Sets.{Id, In, here, there, has}
 use Rattle.group_model.specs.Messages.{Message, History, past, Stands, IsHistory}
-use Rattle.group_model.specs.Membership.{Names, Removes, Named, Removed, named_by, joined, ids_named}
+use Rattle.group_model.specs.Membership.{Names, Removes, Named, Removed, with_id, joined}
 use Rattle.group_model.specs.Validity.{IsOperation, IsUnanswered, AnswersOne}
 use Rattle.group_model.specs.Plain.{kind_of, message_of, history_of, HasAnswered, IsOlderThanMembership}
-use Rattle.group_model.specs.declared.plain.Row.{Row}
+use Rattle.group_model.specs.declared.plain.messages.PlainMessage.{PlainMessage}
 use Rattle.group_model.proofs.ListFacts.{yes_is, no_is, test, has-In, In-has, In-cases, In-either, In-nothing}
 use Rattle.group_model.proofs.Pasts.{past-within, same-message, with_past-history, past-taken, past-left, past-none}
 
-pub history-append : (xs ys : List Row) → history_of (xs ++ ys) ≡ history_of xs ++ history_of ys
+pub history-append : (xs ys : List PlainMessage) → history_of (xs ++ ys) ≡ history_of xs ++ history_of ys
 history-append [] ys = refl
 history-append (x ∷ xs) ys = ap (λ z. message_of x ∷ z) (history-append xs ys)
 
 -- a row is a message of the history
-pub row-in : (rows : List Row) (i : ℕ) (r : Row) → i < length rows → r ≡ get_or rows i r → In (message_of r) (history_of rows)
+pub row-in : (rows : List PlainMessage) (i : ℕ) (r : PlainMessage) → i < length rows → r ≡ get_or rows i r → In (message_of r) (history_of rows)
 row-in [] i r l e = absurd (omega arith)
 row-in (x ∷ rows) zero r l e = subst (λ z. In (message_of z) (history_of (x ∷ rows))) (sym e) here
 row-in (x ∷ rows) (suc i) r l e = there (row-in rows i r (omega arith) e)
 
 -- one more row
-pub row-more : (rows : List Row) (i : ℕ) (r : Row) → i < length rows → r ≡ get_or rows i r → (a : Message) → In a (history_of (take (i + 1) rows))
+pub row-more : (rows : List PlainMessage) (i : ℕ) (r : PlainMessage) → i < length rows → r ≡ get_or rows i r → (a : Message) → In a (history_of (take (i + 1) rows))
     → (a ≡ message_of r) ⊎ In a (history_of (take i rows))
 row-more rows i r l e a j =
     let k : In a (history_of (take i rows ++ get_or rows i r ∷ [])) = subst (λ z. In a (history_of z)) (take_more rows i r l) j in
@@ -35,7 +35,7 @@ row-more rows i r l e a j =
     ]
 
 -- none of the rows so far
-pub none-more : (P : Message → Type 0) (rows : List Row) (i : ℕ) (r : Row) → i < length rows → r ≡ get_or rows i r
+pub none-more : (P : Message → Type 0) (rows : List PlainMessage) (i : ℕ) (r : PlainMessage) → i < length rows → r ≡ get_or rows i r
     → ((a : Message) → In a (history_of (take i rows)) → P a → ⊥) → (P (message_of r) → ⊥)
     → (a : Message) → In a (history_of (take (i + 1) rows)) → P a → ⊥
 none-more P rows i r l e before miss a j p = elim (row-more rows i r l e a j) [
@@ -44,7 +44,7 @@ none-more P rows i r l e before miss a j p = elim (row-more rows i r l e a j) [
 ]
 
 -- all of the rows so far
-pub all-more : (P : Message → Type 0) (rows : List Row) (i : ℕ) (r : Row) → i < length rows → r ≡ get_or rows i r
+pub all-more : (P : Message → Type 0) (rows : List PlainMessage) (i : ℕ) (r : PlainMessage) → i < length rows → r ≡ get_or rows i r
     → ((a : Message) → In a (history_of (take i rows)) → P a) → P (message_of r)
     → (a : Message) → In a (history_of (take (i + 1) rows)) → P a
 all-more P rows i r l e before hit a j = elim (row-more rows i r l e a j) [
@@ -52,20 +52,20 @@ all-more P rows i r l e before hit a j = elim (row-more rows i r l e a j) [
   | inr k ↦ before a k
 ]
 
-pub named-at : (rows : List Row) (i : ℕ) (r : Row) (x : Id) → i < length rows → r ≡ get_or rows i r → Names (kind_of r.kind) x
+pub named-at : (rows : List PlainMessage) (i : ℕ) (r : PlainMessage) (x : Id) → i < length rows → r ≡ get_or rows i r → Names (kind_of r.kind) x
     → Named (history_of rows) x
 named-at rows i r x l e n = record { by = message_of r; there_is = row-in rows i r l e; names = n }
 
-pub named-none : (rows : List Row) (i : ℕ) (r : Row) (x : Id) → i < length rows → r ≡ get_or rows i r
+pub named-none : (rows : List PlainMessage) (i : ℕ) (r : PlainMessage) (x : Id) → i < length rows → r ≡ get_or rows i r
     → (Named (history_of (take i rows)) x → ⊥) → (Names (kind_of r.kind) x → ⊥) → Named (history_of (take (i + 1) rows)) x → ⊥
 named-none rows i r x l e before miss n = none-more (λ (a : Message). Names a.kind x) rows i r l e
     (λ a j p. before (record { by = a; there_is = j; names = p })) miss n.by n.there_is n.names
 
-pub removed-at : (rows : List Row) (i : ℕ) (r : Row) (x : Id) → i < length rows → r ≡ get_or rows i r → Removes (kind_of r.kind) x
+pub removed-at : (rows : List PlainMessage) (i : ℕ) (r : PlainMessage) (x : Id) → i < length rows → r ≡ get_or rows i r → Removes (kind_of r.kind) x
     → Removed (history_of rows) x
 removed-at rows i r x l e n = record { by = message_of r; there_is = row-in rows i r l e; removes = n }
 
-pub removed-none : (rows : List Row) (i : ℕ) (r : Row) (x : Id) → i < length rows → r ≡ get_or rows i r
+pub removed-none : (rows : List PlainMessage) (i : ℕ) (r : PlainMessage) (x : Id) → i < length rows → r ≡ get_or rows i r
     → (Removed (history_of (take i rows)) x → ⊥) → (Removes (kind_of r.kind) x → ⊥) → Removed (history_of (take (i + 1) rows)) x → ⊥
 removed-none rows i r x l e before miss n = none-more (λ (a : Message). Removes a.kind x) rows i r l e
     (λ a j p. before (record { by = a; there_is = j; removes = p })) miss n.by n.there_is n.removes
@@ -80,22 +80,17 @@ append_nil : (h : History) → h ++ [] ≡ h
 append_nil [] = refl
 append_nil (m ∷ h) = ap (λ z. m ∷ z) (append_nil h)
 
-drop-beyond : (rows : List Row) (i : ℕ) → length rows ≤ i → drop i rows ≡ []
+drop-beyond : (rows : List PlainMessage) (i : ℕ) → length rows ≤ i → drop i rows ≡ []
 drop-beyond [] zero l = refl
 drop-beyond [] (suc i) l = refl
 drop-beyond (x ∷ rows) zero l = absurd (omega arith)
 drop-beyond (x ∷ rows) (suc i) l = drop-beyond rows i (omega arith)
 
--- a wanted row is part of a history that begins with it
-pub with_past-rows : (row : Row) (first older : List Row) (rest : History) → history_of first ≡ [] ++ message_of row ∷ []
-    → history_of older ≡ rest → history_of (first ++ older) ≡ message_of row ∷ rest
-with_past-rows row first older rest f o = history-append first older ∙ ap (λ z. z ++ history_of older) f ∙ ap (λ z. message_of row ∷ z) o
-
 -- the past of what is left, after a row that is wanted or not
-drop-row : (rows : List Row) (i : ℕ) (r : Row) → i < length rows → r ≡ get_or rows i r → drop i rows ≡ r ∷ drop (i + 1) rows
+drop-row : (rows : List PlainMessage) (i : ℕ) (r : PlainMessage) → i < length rows → r ≡ get_or rows i r → drop i rows ≡ r ∷ drop (i + 1) rows
 drop-row rows i r l e = rw (add-one, drop-cons rows i r) (ap (λ z. z ∷ drop (suc i) rows) (sym e))
 
-pub past-row_taken : (rows : List Row) (h h' : History) (w w' : List Id) (i : ℕ) (r : Row) (goal : History) → i < length rows → r ≡ get_or rows i r
+pub past-row_taken : (rows : List PlainMessage) (h h' : History) (w w' : List Id) (i : ℕ) (r : PlainMessage) (goal : History) → i < length rows → r ≡ get_or rows i r
     → h ++ past (history_of (drop i rows)) w ≡ goal → In r.id w → h' ≡ h ++ message_of r ∷ [] → w' ≡ r.predecessors.items ++ w
     → h' ++ past (history_of (drop (i + 1) rows)) w' ≡ goal
 past-row_taken rows h h' w w' i r goal l e before taken same wide =
@@ -107,7 +102,7 @@ past-row_taken rows h h' w w' i r goal l e before taken same wide =
     ∙ ap (λ z. h ++ past (history_of z) w) (sym (drop-row rows i r l e))
     ∙ before
 
-pub past-row_left : (rows : List Row) (h h' : History) (w w' : List Id) (i : ℕ) (r : Row) (goal : History) → i < length rows → r ≡ get_or rows i r
+pub past-row_left : (rows : List PlainMessage) (h h' : History) (w w' : List Id) (i : ℕ) (r : PlainMessage) (goal : History) → i < length rows → r ≡ get_or rows i r
     → h ++ past (history_of (drop i rows)) w ≡ goal → (In r.id w → ⊥) → h' ≡ h → w' ≡ w
     → h' ++ past (history_of (drop (i + 1) rows)) w' ≡ goal
 past-row_left rows h h' w w' i r goal l e before left same wide =
@@ -118,13 +113,13 @@ past-row_left rows h h' w w' i r goal l e before left same wide =
     ∙ before
 
 -- at the end
-pub past-row_end : (rows : List Row) (h : History) (w : List Id) (i : ℕ) (goal : History) → length rows ≤ i
+pub past-row_end : (rows : List PlainMessage) (h : History) (w : List Id) (i : ℕ) (goal : History) → length rows ≤ i
     → h ++ past (history_of (drop i rows)) w ≡ goal → h ≡ goal
 past-row_end rows h w i goal l e =
     sym (append_nil h ∙ refl) ∙ ap (λ z. h ++ z) (sym (ap (λ z. past (history_of z) w) (drop-beyond rows i l) ∙ past-none w)) ∙ e
 
 -- at the end the rows so far are all
-pub rows-end : (rows : List Row) (i : ℕ) → length rows ≤ i → {a : Message} → In a (history_of rows) → In a (history_of (take i rows))
+pub rows-end : (rows : List PlainMessage) (i : ℕ) → length rows ≤ i → {a : Message} → In a (history_of rows) → In a (history_of (take i rows))
 rows-end rows i l {a} j = subst (λ z. In a (history_of z)) (sym (take_all i rows l)) j
 
 -- an operation that an add of the member has in its past does not wait
@@ -170,12 +165,6 @@ pub answers_one-where : (h : History) (s i : Id) (o : Message) → IsUnanswered 
 answers_one-where h s i o u e (Ok b) k =
     (λ t. record { operation = o; waits = u; has_id = e; only = k.0 t }, λ one. k.1 (λ a w. one.only a w))
 answers_one-where h s i o u e (Err x) k = tt
-
--- what is left of a list from one element before on
-pub drop-before : {A : Type 0} (xs : List A) (at : ℕ) (d : A) → 0 < at → at ≤ length xs → drop (at - 1) xs ≡ get_or xs (at - 1) d ∷ drop at xs
-drop-before xs at d p l =
-    let e : suc (at - 1) ≡ at = omega arith in
-    drop-cons xs (at - 1) d (omega arith) ∙ ap (λ n. get_or xs (at - 1) d ∷ drop n xs) e
 
 -- an id of the list
 pub id-in : (ids : List Id) (n : ℕ) (d : Id) → n < length ids → In (get_or ids n d) ids
@@ -230,27 +219,24 @@ all-more_ids P ids n d l before hit x j = elim (id-more ids n d l x j) [
 pub ids-end : (ids : List Id) (n : ℕ) → length ids ≤ n → {x : Id} → In x ids → In x (take n ids)
 ids-end ids n l {x} k = subst (λ z. In x z) (sym (take_all n ids l)) k
 
--- ids joined, from the last of the first on
-pub joined-has : (first others : List Id) (at : ℕ) (d : Id) (ids : List Id) → 0 < at → at ≤ length first
-    → ids ≡ joined (drop at first) others → In (get_or first (at - 1) d) ids → ids ≡ joined (drop (at - 1) first) others
-joined-has first others at d ids p l before k =
-    before ∙ sym (ap (λ z. joined z others) (drop-before first at d p l)
-    ∙ ap (λ b. cond b (joined (drop at first) others) (get_or first (at - 1) d ∷ joined (drop at first) others))
-    (In-has (joined (drop at first) others) (get_or first (at - 1) d) (subst (λ z. In (get_or first (at - 1) d) z) before k)))
+pub with_id-has : (ids : List Id) (i : Id) → In i ids → with_id ids i ≡ ids
+with_id-has ids i k = rw (In-has ids i k) refl
 
-pub joined-new : (first others : List Id) (at : ℕ) (d : Id) (ids : List Id) → 0 < at → at ≤ length first
-    → ids ≡ joined (drop at first) others → (In (get_or first (at - 1) d) ids → ⊥)
-    → get_or first (at - 1) d ∷ ids ≡ joined (drop (at - 1) first) others
-joined-new first others at d ids p l before k =
-    ap (λ z. get_or first (at - 1) d ∷ z) before ∙ sym (ap (λ z. joined z others) (drop-before first at d p l)
-    ∙ ap (λ b. cond b (joined (drop at first) others) (get_or first (at - 1) d ∷ joined (drop at first) others))
-    (not_has (joined (drop at first) others) (get_or first (at - 1) d)
-    (λ q. k (subst (λ z. In (get_or first (at - 1) d) z) (sym before) q))))
+pub with_id-new : (ids : List Id) (i : Id) → (In i ids → ⊥) → with_id ids i ≡ ids ++ i ∷ []
+with_id-new ids i k = rw (not_has ids i k) refl
 
--- the ids that a history names, from its oldest message on
-pub named-more : (rows : List Row) (at : ℕ) (d : Row) (ids wider : List Id) → 0 < at → at ≤ length rows
-    → ids ≡ ids_named (history_of (drop at rows)) → wider ≡ joined (named_by (kind_of (get_or rows (at - 1) d).kind)) ids
-    → wider ≡ ids_named (history_of (drop (at - 1) rows))
-named-more rows at d ids wider p l before more =
-    more ∙ ap (λ z. joined (named_by (kind_of (get_or rows (at - 1) d).kind)) z) before
-    ∙ sym (ap (λ z. ids_named (history_of z)) (drop-before rows at d p l))
+drop-one : (more : List Id) (i : ℕ) (d : Id) → i < length more → drop i more ≡ get_or more i d ∷ drop (i + 1) more
+drop-one more i d l = rw (add-one, drop-cons more i d) refl
+
+-- ids joined, one after another
+pub joined-has : (more : List Id) (i : ℕ) (d : Id) (ids goal : List Id) → i < length more → joined ids (drop i more) ≡ goal
+    → In (get_or more i d) ids → joined ids (drop (i + 1) more) ≡ goal
+joined-has more i d ids goal l before k =
+    let e : joined ids (get_or more i d ∷ drop (i + 1) more) ≡ goal = ap (λ z. joined ids z) (sym (drop-one more i d l)) ∙ before in
+    subst (λ z. joined z (drop (i + 1) more) ≡ goal) (with_id-has ids (get_or more i d) k) e
+
+pub joined-new : (more : List Id) (i : ℕ) (d : Id) (ids goal : List Id) → i < length more → joined ids (drop i more) ≡ goal
+    → (In (get_or more i d) ids → ⊥) → joined (ids ++ get_or more i d ∷ []) (drop (i + 1) more) ≡ goal
+joined-new more i d ids goal l before k =
+    let e : joined ids (get_or more i d ∷ drop (i + 1) more) ≡ goal = ap (λ z. joined ids z) (sym (drop-one more i d l)) ∙ before in
+    subst (λ z. joined z (drop (i + 1) more) ≡ goal) (with_id-new ids (get_or more i d) k) e

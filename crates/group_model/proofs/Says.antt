@@ -38,10 +38,6 @@ pub true-both : (a b : Bool) → a ≡ true → b ≡ true → both a b ≡ true
 true-both true b d e = e
 true-both false b d e = cc
 
-pub not_true : (b : Bool) → (b ≡ true → ⊥) → b ≡ false
-not_true true n = absurd (n refl)
-not_true false n = refl
-
 pub says-other : {a : Bool} {P Q : Type 0} → (P → Q) → (Q → P) → Says a P → Says a Q
 says-other f g s = record { holds = λ e. f (s.holds e); told = λ q. s.told (g q) }
 

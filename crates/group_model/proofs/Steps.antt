@@ -1,26 +1,30 @@
 -- One more turn keeps what members know right.
-use Rattle.std.proofs.Common.{◌≡◌, ◌≢◌, cond, ◌⊎◌, inl, inr, List, [], ◌∷◌, Some, None, refl, sym, ◌∙◌, subst, ap}
+use Rattle.std.proofs.Common.{◌≡◌, ◌≢◌, cond, ◌⊎◌, inl, inr, List, [], ◌∷◌, Some, None, refl, sym, ◌∙◌, subst, ap, true, false}
 use Rattle.std.specs.Str.{bytes_eq}
 use Rattle.group_model.specs.Sets.{Id, In, here, there, Bytes}
 use Rattle.group_model.specs.Messages.{with_past, Kind, Create, Update, Remove, Add, Ack, AddAck, Text, Message, History, past, Stands, IsHistory}
 use Rattle.group_model.specs.Membership.{IsMembershipRule, Named, Names, Removes, InView}
 use Rattle.group_model.specs.Validity.{MeetsKind}
 use Rattle.group_model.specs.KeyTerms.{bytes}
-use Rattle.group_model.specs.Steps.{Packet, Entry, Joined, Took, Made, packet_of, header_of, rows_of, hist, part_for, Setting, Given}
-use Rattle.group_model.specs.Knowledge.{events, payload, payload_in, or_else, handed_by, known, ratchet_before}
-use Rattle.group_model.specs.Packets.{IsDue}
-use Rattle.group_model.specs.SharedSecrets.{Turn, World, log_of, ratchet, Moment, now, once}
-use Rattle.group_model.specs.Worlds.{WasMade, Makes, MayLeave, IsLawful}
-use Rattle.group_model.proofs.ListFacts.{yes_is, no_is, test, In-nothing, In-cases, In-head}
+use Rattle.group_model.specs.Packets.{Packet, part_for, Given}
+use Rattle.group_model.specs.Logs.{LogEntry, Joined, Took, Made, packet_of, header_of, rows_of, hist}
+use Rattle.group_model.specs.Settings.{Setting, card_of}
+use Rattle.group_model.specs.Knowledge.{payload_in, or_else, handed_by}
+use Rattle.group_model.specs.Worlds.{Turn, Turns, log_of, Moment, now, once}
+use Rattle.group_model.specs.SharedSecrets.{ratchet}
+use Rattle.group_model.specs.LawfulWorlds.{WasMade, MayLeave, IsLawful}
+use Rattle.group_model.proofs.InSetting.{events, payload, known, ratchet_before, IsDue, Makes}
+use Rattle.group_model.proofs.ListFacts.{yes_is, no_is, test, In-nothing, In-cases, In-head, same_id-true}
 use Rattle.group_model.proofs.Pasts.{with_past-history, past-twice, past-of_none, past-within, past-apart, deps-stand, Agree}
 use Rattle.group_model.proofs.Valids.{past-self}
 use Rattle.group_model.proofs.Views.{EachValid, LastOf, Hands, by_add, by_answer, first_view}
-use Rattle.group_model.proofs.Worlds.{makes_all, own, apart, log_case, log-own, log-none, moment_now, Good, good, hist-more, lawful_at, hist-since, header-stands, MadeIn, MadeIn-since, inside, Clean, clean_back, clean_on, one, before, later, chain, add_suits, no_double, create_then_add, creates, adds, naming, named_once, rooted_at, each_at}
-use Rattle.group_model.proofs.Latest.{same_id-true, moment_on, known-none, known-apart, known_rows-none, ratchet-apart, ratchet-none, ratchet-kept, joins_only, takes_only, WhenMade, made_none, made_last, latest_made, distinct_at, past_forth, row_unseen, none_in, rows_in, last_in, latest_in}
+use Rattle.group_model.proofs.Worlds.{makes_all, own, apart, log_case, log-own, log-none, moment_now, Good, good, hist-more, lawful_at, hist-since, header-stands, MadeIn, MadeIn-since, inside, Clean, clean_back, clean_on, one, before, later, chain, add_suits, no_double, create_then_add, creates, adds, naming, named_once, rooted_at, each_at, inside_at}
+use Rattle.group_model.proofs.Latest.{moment_on, known-none, known-apart, ratchet-apart, ratchet-none, ratchet-kept, joins_only, takes_only, WhenMade, made_none, made_last, latest_made, distinct_at, past_forth, row_unseen, none_in, rows_in, last_in, latest_in}
 use Rattle.group_model.proofs.Parts.{gives, gives_none, present, PartFor, only_due}
 use Rattle.group_model.proofs.Agreement.{and_then, view_moved, AllRight, known_after, SameMoment, one_moment, as_entry, as_row, stood, sender_is}
+use Rattle.group_model.proofs.Knowing.{known_rows-none}
 
-pub moment_under : {w v u : World} {x y : Id} {f g : Entry} → Moment w x f v → Moment (and_then x f v) y g u → Moment w y g u
+pub moment_under : {w v u : Turns} {x y : Id} {f g : LogEntry} → Moment w x f v → Moment (and_then x f v) y g u → Moment w y g u
 moment_under now k = k
 moment_under (once m) k = once (moment_under m k)
 
@@ -44,74 +48,74 @@ sender_sees rule law inviter h each {m} i = elim (each.valid m i) [
     self Text s r = r
 
 module _ (G : Setting) where
-  abbrev Law : World → Type 0
+  abbrev Law : Turns → Type 0
   Law = IsLawful G
 
-  abbrev H : World → Id → History
+  abbrev H : Turns → Id → History
   H w x = hist (log_of w x)
 
-  pub hist_under : {w v : World} {x : Id} {f : Entry} → Law w → Moment w x f v → (y : Id) {a : Message} → In a (H (and_then x f v) y) → In a (H w y)
+  pub hist_under : {w v : Turns} {x : Id} {f : LogEntry} → Law w → Moment w x f v → (y : Id) {a : Message} → In a (H (and_then x f v) y) → In a (H w y)
   hist_under l now y i = i
   hist_under l (once m) y i = hist-more G _ _ l y (hist_under l.2 m y i)
 
-  pub lawful_under : {w v : World} {x : Id} {f : Entry} → Law w → Moment w x f v → Law (and_then x f v)
+  pub lawful_under : {w v : Turns} {x : Id} {f : LogEntry} → Law w → Moment w x f v → Law (and_then x f v)
   lawful_under l now = l
   lawful_under l (once m) = lawful_under l.2 m
 
   -- the maker of what an entry has
-  pub record MakerOf (x : Id) (f : Entry) (v : World) : Type 0 where
+  pub record MakerOf (x : Id) (f : LogEntry) (v : Turns) : Type 0 where
     pub given : Given
-    pub world : World
+    pub world : Turns
     pub moment : Moment (and_then x f v) (header_of f).sender (Made (packet_of f) given) world
 
-  pub maker_of : (x : Id) (f : Entry) (v : World) → MayLeave G v x f → In (header_of f).sender G.members → MakerOf x f v
+  pub maker_of : (x : Id) (f : LogEntry) (v : Turns) → MayLeave G v x f → In (header_of f).sender G.members → MakerOf x f v
   maker_of x (Joined p) v k i = let m = k.1.made i in record { given = m.given; world = m.before; moment = once m.moment }
   maker_of x (Took p) v k i = let m = k.1.made i in record { given = m.given; world = m.before; moment = once m.moment }
   maker_of x (Made p t) v k i = record { given = t; world = v; moment = subst (λ z. Moment (and_then x (Made p t) v) z (Made p t) v) (sym k.sender) now }
 
-  abbrev pub Made? : World → Message → Type 0
+  abbrev pub Made? : Turns → Message → Type 0
   Made? w a = MadeIn G w a
 
-  abbrev pub Cl : World → Id → Type 0
+  abbrev pub Cl : Turns → Id → Type 0
   Cl w x = Clean G w x
 
-  abbrev pub CM : (s : Id) → Packet → Given → World → Type 0
+  abbrev pub CM : (s : Id) → Packet → Given → Turns → Type 0
   CM s p t u = Clean G (and_then s (Made p t) u) s
 
   -- a member's message that stands as an entry was made
-  pub entry_made : {w b : World} {x : Id} {f : Entry} → Law w → Moment w x f b → In (header_of f).sender G.members → Made? w (header_of f)
+  pub entry_made : {w b : Turns} {x : Id} {f : LogEntry} → Law w → Moment w x f b → In (header_of f).sender G.members → Made? w (header_of f)
   entry_made {x = x} {f = f} l m i = let mk : MakerOf x f _ = maker_of x f _ (lawful_at G l m).0 i in
       record { packet = packet_of f; given = mk.given; before = mk.world; moment = moment_under m mk.moment; is = refl }
 
-  pub made_under : {w b : World} {x : Id} {f : Entry} {a : Message} → Moment w x f b → Made? (and_then x f b) a → Made? w a
+  pub made_under : {w b : Turns} {x : Id} {f : LogEntry} {a : Message} → Moment w x f b → Made? (and_then x f b) a → Made? w a
   made_under m k = record { packet = k.packet; given = k.given; before = k.before; moment = moment_under m k.moment; is = k.is }
 
   -- the maker's history before a clean message is clean
-  pub cm_before : {w u : World} {s : Id} {p : Packet} {t : Given} → Law w → Moment w s (Made p t) u → CM s p t u → Cl u s
+  pub cm_before : {w u : Turns} {s : Id} {p : Packet} {t : Given} → Law w → Moment w s (Made p t) u → CM s p t u → Cl u s
   cm_before {u = u} {s = s} {p = p} {t = t} l m cl = clean_back G (lawful_under l m) now s (λ a i. cl.all a (hist-more G (record { who = s; entry = Made p t }) u (lawful_under l m) s i))
 
   -- a message of a clean history is clean
-  pub cm_of : {u b : World} {s z : Id} {q : Packet} {r : Given} → Law u → Cl u s → Moment u z (Made q r) b → In q.header (H u s) → CM z q r b
+  pub cm_of : {u b : Turns} {s z : Id} {q : Packet} {r : Given} → Law u → Cl u s → Moment u z (Made q r) b → In q.header (H u s) → CM z q r b
   cm_of {u} {b} {s} {z} {q} {r} l cl m i = clean_on G l m z (λ a j. elim (In-cases (subst (λ y. In a (hist y)) (log-own z (Made q r) b) j)) [
     | inl e ↦ subst (λ y. Made? u y) (sym e) (cl.all q.header i)
     | inr k ↦ let mk : Makes G z (log_of b z) q r = (lawful_at G l m).0 in
         cl.all a (past-within (H u s) q.header.predecessors (past_forth G {e = Made q r} l m s i (makes_all G mk a k)))
   ])
 
-  pub cm_same : {s s' : Id} {p q : Packet} {t r : Given} {v u : World} → SameMoment G p q t r v u → s ≡ s' → CM s' q r u → CM s p t v
+  pub cm_same : {s s' : Id} {p q : Packet} {t r : Given} {v u : Turns} → SameMoment G p q t r v u → s ≡ s' → CM s' q r u → CM s p t v
   cm_same {s} {s'} {p} {q} {t} {r} {v} {u} is_one e cl = subst (λ z. CM z p t v) (sym e) (subst (λ z. CM s' z t v) (sym is_one.packets) (subst (λ z. CM s' q z v) (sym is_one.randoms) (subst (λ z. CM s' q r z) (sym is_one.worlds) cl)))
 
   -- the rows of a welcome were made before it
-  pub record RowsClean (w : World) (x : Id) : Type 0 where
-    pub rows : (p : Packet) (v : World) → Moment w x (Joined p) v → (a : Message) → In a p.rows → Made? v a
+  pub record RowsClean (w : Turns) (x : Id) : Type 0 where
+    pub rows : (p : Packet) (v : Turns) → Moment w x (Joined p) v → (a : Message) → In a p.rows → Made? v a
 
-  pub AllRight-before : {u : Turn} {w : World} → AllRight G (u ∷ w) → AllRight G w
+  pub AllRight-before : {u : Turn} {w : Turns} → AllRight G (u ∷ w) → AllRight G w
   AllRight-before a = record { right = λ x e v m. a.right x e v (once m) }
 
-  pub AllRight-at : {w v : World} {x : Id} {e : Entry} → AllRight G w → Moment w x e v → AllRight G v
+  pub AllRight-at : {w v : Turns} {x : Id} {e : LogEntry} → AllRight G w → Moment w x e v → AllRight G v
   AllRight-at a m = record { right = λ y f u k. a.right y f u (moment_on m k) }
 
-  own_case : (x : Id) (e : Entry) (w : World) → Law (and_then x e w) → AllRight G (and_then x e w) → Cl (and_then x e w) x → known G x (log_of w x) x ≡ Some (bytes G.primitives (ratchet G.primitives w x))
+  own_case : (x : Id) (e : LogEntry) (w : Turns) → Law (and_then x e w) → AllRight G (and_then x e w) → Cl (and_then x e w) x → known G x (log_of w x) x ≡ Some (bytes G.primitives (ratchet G.primitives w x))
       → known G x (log_of (and_then x e w) x) x ≡ Some (bytes G.primitives (ratchet G.primitives (and_then x e w) x))
   own_case x (Made p t) w l a cl ih =
       let s : p.header.sender ≡ x = l.0.sender in
@@ -124,18 +128,18 @@ module _ (G : Setting) where
       ap (λ z. known G x z x) (log-own x (Took p) w) ∙ known-apart G x (Took p) (log_of w x) x l.0.0.other ∙ ih ∙ ap (λ z. Some (bytes G.primitives z)) (sym (ratchet-kept G x (Took p) w x takes_only))
   own_case x (Joined p) w l a cl ih =
       ap (λ z. known G x z x) (log-own x (Joined p) w) ∙ known-apart G x (Joined p) (log_of w x) x l.0.0.other
-      ∙ known_rows-none G p.rows x (λ b i d.
+      ∙ known_rows-none p.rows x (λ b i d.
       let n0 : Made? (and_then x (Joined p) w) b = cl.all b (subst (λ z. In b (hist z)) (sym (log-own x (Joined p) w)) (there i)) in
       let n : Made? w b = record { packet = n0.packet; given = n0.given; before = n0.before; is = n0.is; moment = WhenMade joins_only n0.moment } in
       let j : In n.packet.header (H w b.sender) = header-stands G l.2 n.moment in
       In-nothing (subst (λ z. In n.packet.header (hist z)) l.0.0.fresh (subst (λ z. In n.packet.header (H w z)) d j)))
       ∙ sym (known-none G x x) ∙ ap (λ z. known G x z x) (sym l.0.0.fresh) ∙ ih ∙ ap (λ z. Some (bytes G.primitives z)) (sym (ratchet-kept G x (Joined p) w x joins_only))
 
-  pub cleaner : (u : Turn) (w : World) → Law (u ∷ w) → (s : Id) → Cl (u ∷ w) s → Cl w s
+  pub cleaner : (u : Turn) (w : Turns) → Law (u ∷ w) → (s : Id) → Cl (u ∷ w) s → Cl w s
   cleaner u w l s cl = clean_back G l (moment_now u w) s (λ a i. cl.all a (hist-more G u w l s i))
 
   -- a member knows its own ratchet
-  pub own_known : (w : World) → Law w → AllRight G w → (s : Id) → Cl w s → known G s (log_of w s) s ≡ Some (bytes G.primitives (ratchet G.primitives w s))
+  pub own_known : (w : Turns) → Law w → AllRight G w → (s : Id) → Cl w s → known G s (log_of w s) s ≡ Some (bytes G.primitives (ratchet G.primitives w s))
   own_known [] l a s cl = ap (λ z. known G s z s) (log-none s) ∙ known-none G s s ∙ ap (λ z. Some (bytes G.primitives z)) (sym (ratchet-none G s))
   own_known (u ∷ w) l a s cl = elim (log_case u w s) [
     | apart n q ↦ ap (λ z. known G s z s) q ∙ own_known w l.2 (AllRight-before a) s (cleaner u w l s cl) ∙ ap (λ z. Some (bytes G.primitives z)) (sym (ratchet-apart G u w s n))
@@ -143,17 +147,17 @@ module _ (G : Setting) where
   ]
 
   -- each part that the maker puts for x opens to its payload
-  pub record Pays (v : World) (x : Id) (p : Packet) : Type 0 where
-    pub pays : (t : Given) (u : World) → Moment v p.header.sender (Made p t) u → RowsClean v x → Cl u p.header.sender → (b : Bytes)
+  pub record Pays (v : Turns) (x : Id) (p : Packet) : Type 0 where
+    pub pays : (t : Given) (u : Turns) → Moment v p.header.sender (Made p t) u → RowsClean v x → Cl u p.header.sender → (b : Bytes)
         → IsDue G p.header.sender (log_of u p.header.sender) p.header t p.header.kind x b → payload G x (log_of v x) p ≡ Some b
 
   -- what opens was put
-  pub record Put (v : World) (x : Id) (p : Packet) (t : Given) (u : World) (b : Bytes) : Type 0 where
+  pub record Put (v : Turns) (x : Id) (p : Packet) (t : Given) (u : Turns) (b : Bytes) : Type 0 where
     pub due : IsDue G p.header.sender (log_of u p.header.sender) p.header t p.header.kind x b
 
-  pub put : (v : World) (x : Id) (p : Packet) → Law v → Pays v x p → RowsClean v x → (t : Given) (u : World) → Moment v p.header.sender (Made p t) u → Cl u p.header.sender → (b : Bytes) → payload G x (log_of v x) p ≡ Some b → Put v x p t u b
+  pub put : (v : Turns) (x : Id) (p : Packet) → Law v → Pays v x p → RowsClean v x → (t : Given) (u : Turns) → Moment v p.header.sender (Made p t) u → Cl u p.header.sender → (b : Bytes) → payload G x (log_of v x) p ≡ Some b → Put v x p t u b
   put v x p l pay rc t u m cu b e = elim (present (part_for p.parts x)) [
-    | gives_none d ↦ absurd (let f : None ≡ Some b = sym (ap (payload_in G x (events G x p.header.sender (log_of v x))) d) ∙ e in cc)
+    | gives_none d ↦ absurd (let f : None ≡ Some b = sym (ap (payload_in G.primitives (card_of G x) (events G x p.header.sender (log_of v x))) d) ∙ e in cc)
     | gives part d ↦
         let mk : Makes G p.header.sender (log_of u p.header.sender) p t = (lawful_at G l m).0 in
         let o : PartFor G p.header.sender (log_of u p.header.sender) p t x part = only_due G mk x part d in
@@ -162,7 +166,7 @@ module _ (G : Setting) where
   ]
 
   -- what is handed is what its maker knew
-  pub handed_right : (v : World) (x : Id) (p : Packet) → Law v → Pays v x p → RowsClean v x → (t : Given) (u : World) → Moment v p.header.sender (Made p t) u → Cl u p.header.sender → (b : Bytes)
+  pub handed_right : (v : Turns) (x : Id) (p : Packet) → Law v → Pays v x p → RowsClean v x → (t : Given) (u : Turns) → Moment v p.header.sender (Made p t) u → Cl u p.header.sender → (b : Bytes)
       → handed_by x p.header.kind (payload G x (log_of v x) p) ≡ Some b → known G p.header.sender (log_of u p.header.sender) p.header.sender ≡ Some b
   handed_right v x p l pay rc t u m cu b e = by p.header.kind (λ d. (put v x p l pay rc t u m cu b d).due) e
     where
@@ -175,12 +179,13 @@ module _ (G : Setting) where
         | yes_is d ↦ (f (subst (λ z. cond z (payload G x (log_of v x) p) None ≡ Some b) d e)).1
         | no_is d ↦ (let g : None ≡ Some b = subst (λ z. cond z (payload G x (log_of v x) p) None ≡ Some b) d e in cc)
       ]
-      by (Ack i took) f e = cc
+      by (Ack i true) f e = cc
+      by (Ack i false) f e = cc
       by (AddAck i) f e = (f e).1
       by Text f e = cc
 
   -- who is handed the ratchet has it
-  pub handed_now : (v : World) (x : Id) (p : Packet) (h : History) → Law v → Pays v x p → RowsClean v x → (t : Given) (u : World) → Moment v p.header.sender (Made p t) u → Cl u p.header.sender
+  pub handed_now : (v : Turns) (x : Id) (p : Packet) (h : History) → Law v → Pays v x p → RowsClean v x → (t : Given) (u : Turns) → Moment v p.header.sender (Made p t) u → Cl u p.header.sender
       → Hands h p.header x → ((o : Message) → In o (past h p.header.predecessors) → In o (H u p.header.sender)) → InView G.rule (p.header ∷ H u p.header.sender) p.header x
       → (b : Bytes) → known G p.header.sender (log_of u p.header.sender) p.header.sender ≡ Some b → handed_by x p.header.kind (payload G x (log_of v x) p) ≡ Some b
   handed_now v x p h l pay rc t u m cu (by_add q) into see b e =
@@ -192,7 +197,7 @@ module _ (G : Setting) where
       (record { operation = o; there_is = there (into o i); has_id = refl; adds = a; in_view = see }, e)))
 
   -- the maker's history and a reader's
-  module _ (x : Id) (p : Packet) (e : Entry) (has_packet : packet_of e ≡ p) (w : World) (l : Law (and_then x e w)) (t : Given) (u : World) (k : Moment w p.header.sender (Made p t) u) where
+  module _ (x : Id) (p : Packet) (e : LogEntry) (has_packet : packet_of e ≡ p) (w : Turns) (l : Law (and_then x e w)) (t : Given) (u : Turns) (k : Moment w p.header.sender (Made p t) u) where
     pub makes_it : Makes G p.header.sender (log_of u p.header.sender) p t
     makes_it = (lawful_at G l.2 k).0
 
@@ -231,7 +236,7 @@ module _ (G : Setting) where
     to_maker z i = subst (λ y. In z (hist y)) (sym (log-own p.header.sender (Made p t) u)) i
 
     -- the rows of the reader's welcome were made, where the reader is in the view of a clean message
-    pub rows_made : CM p.header.sender p t u → InView G.rule (H (and_then x e w) x) p.header x → (p0 : Packet) (v0 : World) → Moment (and_then x e w) x (Joined p0) v0 → (a : Message) → In a p0.rows → Made? v0 a
+    pub rows_made : CM p.header.sender p t u → InView G.rule (H (and_then x e w) x) p.header x → (p0 : Packet) (v0 : Turns) → Moment (and_then x e w) x (Joined p0) v0 → (a : Message) → In a p0.rows → Made? v0 a
     rows_made cl see p0 v0 m0 a i =
         let sn : Named (with_past (H (and_then x e w) x) p.header) x = G.is_rule.named (with_past (H (and_then x e w) x) p.header) x see in
         let b : Message = sn.by in
@@ -267,7 +272,7 @@ module _ (G : Setting) where
         ]
 
     -- no later message of the sender stands in the reader's history before
-    pub none_later : (fresh : Stands (H w x) p.header.id → ⊥) → {a : Message} → In a (H w x) → a.sender ≡ p.header.sender → (q : Packet) (r : Given) (v : World) → Moment w p.header.sender (Made q r) v → q.header ≡ a → In q.header (H u p.header.sender)
+    pub none_later : (fresh : Stands (H w x) p.header.id → ⊥) → {a : Message} → In a (H w x) → a.sender ≡ p.header.sender → (q : Packet) (r : Given) (v : Turns) → Moment w p.header.sender (Made q r) v → q.header ≡ a → In q.header (H u p.header.sender)
     none_later fresh {a} i d q r v n f = elim (chain G k n l.2) [
       | one g ↦ absurd (fresh (record { by = a; there_is = i; has_id = ap (λ (z : Message). z.id) (sym (g ∙ f)) }))
       | before j ↦ absurd (fresh (record {
@@ -280,10 +285,7 @@ module _ (G : Setting) where
     ]
 
   -- in the maker's history
-  module _ (s : Id) (p : Packet) (t : Given) (u : World) (lm : Law (and_then s (Made p t) u)) (cu : Cl u s) where
-    abbrev HM : History
-    HM = H (and_then s (Made p t) u) s
-
+  module _ (s : Id) (p : Packet) (t : Given) (u : Turns) (lm : Law (and_then s (Made p t) u)) (cu : Cl u s) where
     hm_is : H (and_then s (Made p t) u) s ≡ p.header ∷ H u s
     hm_is = ap hist (log-own s (Made p t) u)
 
@@ -296,8 +298,8 @@ module _ (G : Setting) where
     pub deep_hm : {a : Message} → In a (H u s) → In a (past (H (and_then s (Made p t) u) s) p.header.predecessors)
     deep_hm {a} i = in_hm (makes_all G lm.0 a i)
 
-    pub last_of : (q : Packet) (r : Given) (v : World) → Moment u s (Made q r) v
-        → ((q' : Packet) (r' : Given) (v' : World) → Moment u s (Made q' r') v' → (q'.header ≡ q.header) ⊎ In q'.header (H v s))
+    pub last_of : (q : Packet) (r : Given) (v : Turns) → Moment u s (Made q r) v
+        → ((q' : Packet) (r' : Given) (v' : Turns) → Moment u s (Made q' r') v' → (q'.header ≡ q.header) ⊎ In q'.header (H v s))
         → LastOf (H (and_then s (Made p t) u) s) p.header q.header
     last_of q r v n all = record {
       there_is = deep_hm (header-stands G {e = Made q r} lm.2 n);
@@ -313,7 +315,7 @@ module _ (G : Setting) where
     }
 
   -- what was known before a packet of its sender, where the packet hands nothing
-  module _ (x : Id) (p : Packet) (w : World) (l : Law (and_then x (Took p) w)) (right : AllRight G w) (pay : Pays w x p) (t : Given) (u : World) (k : Moment w p.header.sender (Made p t) u) (cl : CM p.header.sender p t u)
+  module _ (x : Id) (p : Packet) (w : Turns) (l : Law (and_then x (Took p) w)) (right : AllRight G w) (pay : Pays w x p) (t : Given) (u : Turns) (k : Moment w p.header.sender (Made p t) u) (cl : CM p.header.sender p t u)
       (see : InView G.rule (H (and_then x (Took p) w) x) p.header x) where
     whole : History
     whole = H (and_then x (Took p) w) x
@@ -341,13 +343,13 @@ module _ (G : Setting) where
     see_there = see_back x p (Took p) refl w l t u k (read_here x p (Took p) refl w l t u k) here see
 
     pub here_inside : In p.header.sender G.members
-    here_inside = (makes_it x p (Took p) refl w l t u k).inside
+    here_inside = inside_at G l.2 k
 
     -- the entry of the last message of the sender
-    last_entry : (q : Packet) (r : Given) (v : World) → Moment u p.header.sender (Made q r) v → ratchet G.primitives u p.header.sender ≡ ratchet G.primitives (and_then p.header.sender (Made q r) v) p.header.sender
-        → ((q' : Packet) (r' : Given) (v' : World) → Moment u p.header.sender (Made q' r') v' → (q'.header ≡ q.header) ⊎ In q'.header (H v p.header.sender))
+    last_entry : (q : Packet) (r : Given) (v : Turns) → Moment u p.header.sender (Made q r) v → ratchet G.primitives u p.header.sender ≡ ratchet G.primitives (and_then p.header.sender (Made q r) v) p.header.sender
+        → ((q' : Packet) (r' : Given) (v' : Turns) → Moment u p.header.sender (Made q' r') v' → (q'.header ≡ q.header) ⊎ In q'.header (H v p.header.sender))
         → InView G.rule (H (and_then x (Took p) w) x) q.header x
-        → (f : Entry) (b : World) → Moment w x f b → header_of f ≡ q.header
+        → (f : LogEntry) (b : Turns) → Moment w x f b → header_of f ≡ q.header
         → known G x (log_of (and_then x f b) x) p.header.sender ≡ Some (bytes G.primitives (ratchet G.primitives u p.header.sender))
     last_entry q r v n same all seen f b mf d =
         let sd : (header_of f).sender ≡ p.header.sender = ap (λ (z : Message). z.sender) d ∙ sender_is G n lu in
@@ -367,9 +369,9 @@ module _ (G : Setting) where
         ∙ ap (λ z. Some (bytes G.primitives z)) (sym same)
 
     -- an entry of the sender is the last message of its maker
-    pub is_last : (q : Packet) (r : Given) (v : World) → Moment u p.header.sender (Made q r) v
-        → ((q' : Packet) (r' : Given) (v' : World) → Moment u p.header.sender (Made q' r') v' → (q'.header ≡ q.header) ⊎ In q'.header (H v p.header.sender))
-        → (f : Entry) (b : World) → Moment w x f b → (header_of f).sender ≡ p.header.sender → (q.header ≡ header_of f) ⊎ In q.header (rows_of f (H b x)) → header_of f ≡ q.header
+    pub is_last : (q : Packet) (r : Given) (v : Turns) → Moment u p.header.sender (Made q r) v
+        → ((q' : Packet) (r' : Given) (v' : Turns) → Moment u p.header.sender (Made q' r') v' → (q'.header ≡ q.header) ⊎ In q'.header (H v p.header.sender))
+        → (f : LogEntry) (b : Turns) → Moment w x f b → (header_of f).sender ≡ p.header.sender → (q.header ≡ header_of f) ⊎ In q.header (rows_of f (H b x)) → header_of f ≡ q.header
     is_last q r v n all f b mf d either =
         let i : In (header_of f) (H w x) = header-stands G {e = f} l.2 mf in
         let made : Made? w (header_of f) = entry_made l.2 mf (subst (λ z. In z G.members) (sym d) here_inside) in

@@ -1,14 +1,17 @@
 -- What a member makes that answers at once: its commands, and the answer to each operation that it takes,
--- in the step that takes it. docs/SPECIFICATION.md, "The group", "Commands and answers".
+-- in the step that takes it. docs/GROUP.md, "Commands and answers".
 use Rattle.std.specs.Prelude.{◌≡◌, ◌+◌, [], ◌∷◌, Option, Some, None}
 use Rattle.group_model.specs.Sets.{Bytes, Id, In}
 use Rattle.group_model.specs.Messages.{Kind, Create, Update, Remove, Add, Ack, AddAck, Text, Message, AreHeads}
 use Rattle.group_model.specs.Validity.{Answers, MeetsKind, GoesOn, count_of}
 use Rattle.group_model.specs.Messages.{past}
-use Rattle.group_model.specs.Steps.{Setting, Packet, Given, Entry, Joined, Took, Made, Log, hist}
+use Rattle.group_model.specs.Settings.{Setting, card_of, Owner, owner_in}
+use Rattle.group_model.specs.Packets.{Packet, Given}
+use Rattle.group_model.specs.Logs.{LogEntry, Joined, Took, Made, Log, hist}
 use Rattle.group_model.specs.Knowledge.{known}
-use Rattle.group_model.specs.SharedSecrets.{World, log_of}
-use Rattle.group_model.specs.Worlds.{IsLawful}
+use Rattle.group_model.specs.LawfulLogs.{IsLawfulLog}
+use Rattle.group_model.specs.Worlds.{Turns, log_of}
+use Rattle.group_model.specs.LawfulWorlds.{IsLawful}
 
 -- an operation asks for an answer
 abbrev pub asks : Kind → Id → Option Id
@@ -28,7 +31,7 @@ waiting (Took p ∷ l) = asks p.header.kind p.header.id
 waiting (Made p t ∷ l) = None
 
 -- an entry that may come where this operation waits: its answer alone; and where none does, no answer
-abbrev pub Follows : Option Id → Entry → Type 0
+abbrev pub Follows : Option Id → LogEntry → Type 0
 Follows None (Joined p) = Unit {0}
 Follows None (Took p) = Unit {0}
 Follows None (Made p t) = (i : Id) → Answers p.header.kind i → ⊥
@@ -42,19 +45,31 @@ AnswersAtOnce [] = Unit {0}
 AnswersAtOnce (e ∷ l) = Follows (waiting l) e × AnswersAtOnce l
 
 -- what a member looks at before it makes a message, over its whole history
-pub record MayMake (G : Setting) (x : Id) (l : Log) (m : Message) : Type 0 where
-  pub sender : m.sender ≡ x
-  pub member : In x (G.rule (hist l))
-  pub number : m.seq ≡ count_of x (hist l) + 1
-  pub suits : MeetsKind G.rule G.inviter (hist l) x m.kind
+pub record MayMake (O : Owner) (l : Log) (m : Message) : Type 0 where
+  pub sender : m.sender ≡ O.id
+  pub member : In O.id (O.rule (hist l))
+  pub number : m.seq ≡ count_of O.id (hist l) + 1
+  pub suits : MeetsKind O.rule O.inviter (hist l) O.id m.kind
   pub heads : AreHeads (hist l) m.predecessors
 
--- in every lawful world what a member makes that answers at once is valid over its past, by the first to the sixth rule
+-- with every lawful log what a member makes that answers at once is valid over its past, by the first to the sixth rule
 abbrev pub MadeIsValid : Type 0
-MadeIsValid = (G : Setting) (w : World) (x : Id) (p : Packet) (t : Given) → IsLawful G w → AnswersAtOnce (log_of w x)
-    → Follows (waiting (log_of w x)) (Made p t) → MayMake G x (log_of w x) p.header
+MadeIsValid = (O : Owner) (l : Log) (p : Packet) (t : Given) → IsLawfulLog O l → AnswersAtOnce l
+    → Follows (waiting l) (Made p t) → MayMake O l p.header
+    → GoesOn O.rule O.inviter (past (hist l) p.header.predecessors) p.header
+
+-- so it is in every lawful world
+abbrev pub MadeIsValidInWorlds : Type 0
+MadeIsValidInWorlds = (G : Setting) (w : Turns) (x : Id) (p : Packet) (t : Given) → IsLawful G w
+    → AnswersAtOnce (log_of w x)
+    → Follows (waiting (log_of w x)) (Made p t) → MayMake (owner_in G x) (log_of w x) p.header
     → GoesOn G.rule G.inviter (past (hist (log_of w x)) p.header.predecessors) p.header
 
--- in every lawful world a member knows its own ratchet: what the parts of its adds and add-acks carry
+-- with every lawful log a member knows its own ratchet: what the parts of its adds and add-acks carry
 abbrev pub OwnRatchetKnown : Type 0
-OwnRatchetKnown = (G : Setting) (w : World) (x : Id) → IsLawful G w → (r : Bytes) × (known G x (log_of w x) x ≡ Some r)
+OwnRatchetKnown = (O : Owner) (l : Log) → IsLawfulLog O l
+    → (r : Bytes) × (known O.primitives O.card O.id l O.id ≡ Some r)
+
+abbrev pub OwnRatchetKnownInWorlds : Type 0
+OwnRatchetKnownInWorlds = (G : Setting) (w : Turns) (x : Id) → IsLawful G w
+    → (r : Bytes) × (known G.primitives (card_of G x) x (log_of w x) x ≡ Some r)

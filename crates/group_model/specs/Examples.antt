@@ -1,14 +1,16 @@
 -- A history of three members, and what an example of a lawful world over it has to show: that the conditions of the
--- theorems can be met, by members that learn secrets and read texts. docs/SPECIFICATION.md, "The group", "Lawful worlds that
--- there are".
+-- theorems can be met, by members that learn secrets and read texts. docs/GROUP.md, "Lawful
+-- worlds that there are".
 use Rattle.std.specs.Prelude.{◌≡◌, ◌≢◌, ℕ, true, false, List, [], ◌∷◌, Some, codes}
 use Rattle.group_model.specs.Sets.{Bytes, Id, In}
 use Rattle.group_model.specs.Messages.{Kind, Create, Update, Add, Ack, AddAck, Text, Message, History}
 use Rattle.group_model.specs.Membership.{remove_wins}
-use Rattle.group_model.specs.Steps.{Setting, Packet, Joined, hist}
+use Rattle.group_model.specs.Settings.{Setting, card_of}
+use Rattle.group_model.specs.Packets.{Packet}
+use Rattle.group_model.specs.Logs.{Joined, hist}
 use Rattle.group_model.specs.Knowledge.{known, learnt_of, text_of}
-use Rattle.group_model.specs.SharedSecrets.{World, log_of, Moment}
-use Rattle.group_model.specs.Worlds.{IsLawful}
+use Rattle.group_model.specs.Worlds.{Turns, log_of, Moment}
+use Rattle.group_model.specs.LawfulWorlds.{IsLawful}
 use Rattle.group_model.specs.Conduct.{AnswersAtOnce}
 use Rattle.group_model.specs.Agreement.{MadeBy, IsEntitled}
 
@@ -88,14 +90,14 @@ history_of_cyd =
     answer ∷ question ∷ handed ∷ forwarded ∷ update_acked ∷ update ∷ addition_acked ∷ addition ∷ creation_acked
     ∷ creation ∷ []
 
--- A lawful world with these histories. Each of the three is entitled to bob's ack that forwards, and learnt its update
--- secret, which is not that of ada's add-ack: cyd too, who was added beside the update and had no part of it. What ada and
--- bob read as the question is what cyd sent.
+-- A lawful world with these histories. Each of the three is entitled to bob's ack that forwards, and learnt its
+-- update secret, which is not that of ada's add-ack: cyd too, who was added beside the update and had no part of it.
+-- What ada and bob read as the question is what cyd sent.
 pub record ThreeMembers : Type 0 where
   pub setting : Setting
   pub removes_win : setting.rule ≡ remove_wins
   pub all_honest : setting.members ≡ ada ∷ bob ∷ cyd ∷ []
-  pub world : World
+  pub world : Turns
   pub lawful : IsLawful setting world
   pub of_ada : hist (log_of world ada) ≡ history_of_ada
   pub of_bob : hist (log_of world bob) ≡ history_of_bob
@@ -107,17 +109,17 @@ pub record ThreeMembers : Type 0 where
   pub bob_entitled : IsEntitled setting world bob forwarded
   pub cyd_entitled : IsEntitled setting world cyd forwarded
   pub secret : Bytes
-  pub ada_learnt : learnt_of setting ada (log_of world ada) forwarded ≡ Some secret
-  pub bob_learnt : learnt_of setting bob (log_of world bob) forwarded ≡ Some secret
-  pub cyd_learnt : learnt_of setting cyd (log_of world cyd) forwarded ≡ Some secret
+  pub ada_learnt : learnt_of setting.primitives (card_of setting ada) ada (log_of world ada) forwarded ≡ Some secret
+  pub bob_learnt : learnt_of setting.primitives (card_of setting bob) bob (log_of world bob) forwarded ≡ Some secret
+  pub cyd_learnt : learnt_of setting.primitives (card_of setting cyd) cyd (log_of world cyd) forwarded ≡ Some secret
   pub cyd_was_handed : IsEntitled setting world cyd handed
   pub other_secret : Bytes
-  pub ada_handed : learnt_of setting ada (log_of world ada) handed ≡ Some other_secret
-  pub cyd_handed : learnt_of setting cyd (log_of world cyd) handed ≡ Some other_secret
+  pub ada_handed : learnt_of setting.primitives (card_of setting ada) ada (log_of world ada) handed ≡ Some other_secret
+  pub cyd_handed : learnt_of setting.primitives (card_of setting cyd) cyd (log_of world cyd) handed ≡ Some other_secret
   pub secrets_differ : secret ≢ other_secret
   pub ada_entitled_to_text : IsEntitled setting world ada question
-  pub ada_read : text_of setting ada (log_of world ada) question ≡ Some (codes "hello")
-  pub bob_read : text_of setting bob (log_of world bob) question ≡ Some (codes "hello")
+  pub ada_read : text_of setting.primitives (card_of setting ada) ada (log_of world ada) question ≡ Some (codes "hello")
+  pub bob_read : text_of setting.primitives (card_of setting bob) bob (log_of world bob) question ≡ Some (codes "hello")
   pub sent : (k : MadeBy world question) → k.given.text ≡ codes "hello"
 
 -- A second history: ada created a group with bob and eve, who is none of the honest members. eve sends an ack, and an
@@ -167,25 +169,25 @@ later_history_of_cyd =
     ratchet_of_ada ∷ answer_of_ada ∷ invitation_acked ∷ invitation ∷ answer_of_bob ∷ eves_update ∷ eves_ack
     ∷ opening_acked ∷ opening ∷ []
 
--- A lawful world with these histories. cyd joined by a welcome with eve's rows, and knows its own ratchet still. ada and
--- bob are entitled to what bob made before he took anything of eve, and learnt one secret of it.
+-- A lawful world with these histories. cyd joined by a welcome with eve's rows, and knows its own ratchet still. ada
+-- and bob are entitled to what bob made before he took anything of eve, and learnt one secret of it.
 pub record RowsOfAnOutsider : Type 0 where
   pub setting : Setting
   pub removes_win : setting.rule ≡ remove_wins
   pub all_honest : setting.members ≡ ada ∷ bob ∷ cyd ∷ []
-  pub world : World
+  pub world : Turns
   pub lawful : IsLawful setting world
   pub of_ada : hist (log_of world ada) ≡ later_history_of_ada
   pub of_bob : hist (log_of world bob) ≡ later_history_of_bob
   pub of_cyd : hist (log_of world cyd) ≡ later_history_of_cyd
   pub outside : In eve setting.members → ⊥
   pub welcome : Packet
-  pub before : World
+  pub before : Turns
   pub joined : Moment world cyd (Joined welcome) before
   pub rows : welcome.rows ≡ answer_of_bob ∷ eves_update ∷ eves_ack ∷ opening_acked ∷ opening ∷ []
-  pub cyd_ratchet : (r : Bytes) × (known setting cyd (log_of world cyd) cyd ≡ Some r)
+  pub cyd_ratchet : (r : Bytes) × (known setting.primitives (card_of setting cyd) cyd (log_of world cyd) cyd ≡ Some r)
   pub ada_entitled : IsEntitled setting world ada opening_acked
   pub bob_entitled : IsEntitled setting world bob opening_acked
   pub secret : Bytes
-  pub ada_learnt : learnt_of setting ada (log_of world ada) opening_acked ≡ Some secret
-  pub bob_learnt : learnt_of setting bob (log_of world bob) opening_acked ≡ Some secret
+  pub ada_learnt : learnt_of setting.primitives (card_of setting ada) ada (log_of world ada) opening_acked ≡ Some secret
+  pub bob_learnt : learnt_of setting.primitives (card_of setting bob) bob (log_of world bob) opening_acked ≡ Some secret

@@ -1,5 +1,5 @@
 -- Key terms, the bytes that they stand for, and how a message moves its sender's ratchet.
--- The DCGKA paper's ratchet of each sender and its update secrets; docs/SPECIFICATION.md, "The group", "Primitives and
+-- The DCGKA paper's ratchet of each sender and its update secrets; docs/GROUP.md, "Primitives and
 -- key terms".
 use Rattle.std.specs.Prelude.{true, false, [], Option, Some, None, option_map, replicate, codes}
 use Rattle.group_model.specs.Sets.{Bytes, Id}
@@ -84,11 +84,6 @@ secret_bytes K Stays r = None
 secret_bytes K (Once i) r = Some (K.out r i)
 secret_bytes K Twice r = Some (K.out (K.next r welcome_word) add_word)
 
-abbrev pub motion_bytes : Primitives → Motion Term → Motion Bytes
-motion_bytes K Stays = Stays
-motion_bytes K (Once i) = Once (bytes K i)
-motion_bytes K Twice = Twice
-
 -- where both the motion and the ratchet are known
 abbrev pub turned_known : Primitives → Option (Motion Bytes) → Option Bytes → Option Bytes
 turned_known K None r = None
@@ -100,14 +95,35 @@ secret_known K None r = None
 secret_known K (Some m) None = None
 secret_known K (Some m) (Some r) = secret_bytes K m r
 
+-- what a message of the kind does to keys: it sends a seed, adds a member, takes the secret of an operation, hands on a
+-- ratchet, spends a message key, or leaves them
+pub data KeyUse : Type 0 where
+  SendsSeed : KeyUse
+  AddsMember : (target : Id) → KeyUse
+  TakesSecret : (operation : Id) → KeyUse
+  HandsRatchet : KeyUse
+  SpendsKey : KeyUse
+  LeavesKeys : KeyUse
+
+abbrev pub key_use : Kind → KeyUse
+key_use (Create members) = SendsSeed
+key_use Update = SendsSeed
+key_use (Remove y) = SendsSeed
+key_use (Add y) = AddsMember y
+key_use (Ack i true) = TakesSecret i
+key_use (Ack i false) = LeavesKeys
+key_use (AddAck i) = HandsRatchet
+key_use Text = SpendsKey
+
 -- the sender's text chain after a message, from its update secret and the chain before it: an update
 -- secret starts the chain anew, and a text spends its next message key
+abbrev pub chain_by_use : Primitives → KeyUse → (secret prior : Option Bytes) → Option Bytes
+chain_by_use K SendsSeed u k = option_map (first_chain K) u
+chain_by_use K (AddsMember y) u k = option_map (first_chain K) u
+chain_by_use K (TakesSecret i) u k = option_map (first_chain K) u
+chain_by_use K HandsRatchet u k = option_map (first_chain K) u
+chain_by_use K SpendsKey u k = option_map (next_chain K) k
+chain_by_use K LeavesKeys u k = k
+
 abbrev pub chain_after : Primitives → Kind → (secret prior : Option Bytes) → Option Bytes
-chain_after K (Create members) u k = option_map (first_chain K) u
-chain_after K Update u k = option_map (first_chain K) u
-chain_after K (Remove y) u k = option_map (first_chain K) u
-chain_after K (Add y) u k = option_map (first_chain K) u
-chain_after K (Ack i true) u k = option_map (first_chain K) u
-chain_after K (Ack i false) u k = k
-chain_after K (AddAck i) u k = option_map (first_chain K) u
-chain_after K Text u k = option_map (next_chain K) k
+chain_after K k u prior = chain_by_use K (key_use k) u prior

@@ -1,9 +1,9 @@
 -- Who is a member, who sees a message, and where its parts go.
--- The DCGKA paper's decentralised group membership function and its `member_view`; docs/SPECIFICATION.md,
--- "The group", "Membership".
-use Rattle.std.specs.Prelude.{◌≡◌, ◌≢◌, true, false, cond, List, [], ◌∷◌}
+-- The DCGKA paper's decentralised group membership function and its `member_view`; docs/GROUP.md, "Membership".
+use Rattle.std.specs.Prelude.{◌≡◌, ◌≢◌, ◌↔◌, true, false, cond, List, [], ◌∷◌, ◌++◌}
 use Rattle.group_model.specs.Sets.{Id, In, has, Within, IsAscending}
-use Rattle.group_model.specs.Messages.{Kind, Create, Update, Remove, Add, Ack, AddAck, Text, Message, History, past, with_past, IsHistory}
+use Rattle.group_model.specs.Messages.{Kind, Create, Update, Remove, Add, Ack, AddAck, Text, Message, History, past}
+use Rattle.group_model.specs.Messages.{with_past, IsHistory}
 
 -- the kind names the id as a member
 abbrev pub Names : Kind → Id → Type 0
@@ -41,9 +41,16 @@ pub record Removed (p : History) (x : Id) : Type 0 where
 pub record NamedOnce (h : History) : Type 0 where
   pub once : (a b : Message) (x : Id) → In a h → In b h → Names a.kind x → Names b.kind x → a ≡ b
 
+-- the kind names and removes nobody
+pub record MovesNobody (k : Kind) : Type 0 where
+  pub names_nobody : (y : Id) → Names k y → ⊥
+  pub removes_nobody : (y : Id) → Removes k y → ⊥
+
 -- A membership rule computes the members of a set of messages. What agreement asks of it:
 -- members are named; who was named in a set and is out of it is out of each larger one; the answer
--- depends on the set alone; and a message that does not remove its sender leaves it a member.
+-- depends on the set alone; and a message that does not remove its sender leaves it a member. What making a message
+-- asks of it besides: the answer doesn't read the id of the newest message, which hashes a body that the answer goes
+-- into; and a message that names and removes nobody, as an answer to an operation, moves nobody.
 pub record IsMembershipRule (rule : History → List Id) : Type 0 where
   pub named : (p : History) (x : Id) → In x (rule p) → Named p x
   pub out_stays_out : (p q : History) (x : Id) → IsHistory p → IsHistory q → NamedOnce q → Within p q
@@ -54,6 +61,11 @@ pub record IsMembershipRule (rule : History → List Id) : Type 0 where
       → In x (rule (m ∷ []))
   pub sender_stays : (p : History) (m : Message) → IsHistory (m ∷ p) → Within p (past p m.predecessors)
       → In m.sender (rule p) → (Removes m.kind m.sender → ⊥) → In m.sender (rule (m ∷ p))
+  pub newest_id_unread : (p : History) (m : Message) (i x : Id) → IsHistory (m ∷ p)
+      → IsHistory (record m { id = i } ∷ p)
+      → In x (rule (m ∷ p)) → In x (rule (record m { id = i } ∷ p))
+  pub others_stay : (p : History) (m : Message) (x : Id) → IsHistory (m ∷ p) → Within p (past p m.predecessors)
+      → MovesNobody m.kind → In x (rule (m ∷ p)) ↔ In x (rule p)
 
 -- Membership, version 1: removes win
 pub record IsMember (p : History) (x : Id) : Type 0 where
@@ -79,20 +91,24 @@ removed_by (Ack o took) = []
 removed_by (AddAck o) = []
 removed_by Text = []
 
--- the first ids before the others, each once
-abbrev pub joined : List Id → List Id → List Id
-joined [] others = others
-joined (i ∷ ids) others = cond (has (joined ids others) i) (joined ids others) (i ∷ joined ids others)
+-- the ids, and behind them one that is new
+abbrev pub with_id : List Id → Id → List Id
+with_id ids i = cond (has ids i) ids (ids ++ i ∷ [])
 
--- all ids that a create or add names, each once
+-- the ids, and behind them those of the others that are new, each once
+abbrev pub joined : List Id → List Id → List Id
+joined ids [] = ids
+joined ids (i ∷ others) = joined (with_id ids i) others
+
+-- all ids that a create or add names, each once, in the order in which they are named
 abbrev pub ids_named : History → List Id
 ids_named [] = []
-ids_named (m ∷ p) = joined (named_by m.kind) (ids_named p)
+ids_named (m ∷ p) = joined (ids_named p) (named_by m.kind)
 
 -- all ids that a remove names
 abbrev pub ids_removed : History → List Id
 ids_removed [] = []
-ids_removed (m ∷ p) = joined (removed_by m.kind) (ids_removed p)
+ids_removed (m ∷ p) = joined (ids_removed p) (removed_by m.kind)
 
 -- the ids but those of the other list
 abbrev pub without : List Id → List Id → List Id

@@ -1,5 +1,5 @@
 -- Messages, histories, pasts and heads.
--- The DCGKA paper's control messages in their causal order; docs/SPECIFICATION.md, "The group", "Messages and
+-- The DCGKA paper's control messages in their causal order; docs/GROUP.md, "Messages and
 -- histories".
 use Rattle.std.specs.Prelude.{◌≡◌, ℕ, Bool, cond, List, [], ◌∷◌, ◌++◌}
 use Rattle.group_model.specs.Sets.{Id, In, has, IsAscending}

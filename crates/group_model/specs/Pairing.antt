@@ -1,8 +1,9 @@
 -- Two-party messaging of a pair of members, by the list of what one of them sent to the other and
 -- opened from the other, newest first.
 -- The DCGKA paper's two-party secure messaging, 2SM;
--- docs/SPECIFICATION.md, "The group", "Two-party messaging".
-use Rattle.std.specs.Prelude.{◌≡◌, ℕ, ◌+◌, Bool, true, false, cond, List, [], ◌∷◌, ◌++◌, Option, Some, None, nat_lt, nat_eq, option_map, codes}
+-- docs/GROUP.md, "Two-party messaging".
+use Rattle.std.specs.Prelude.{◌≡◌, ℕ, ◌+◌, Bool, true, false, cond, List, [], ◌∷◌, ◌++◌, Option, Some, None, nat_lt}
+use Rattle.std.specs.Prelude.{nat_eq, option_map, codes}
 use Rattle.std.specs.Option.{option_and_then}
 use Rattle.group_model.specs.Sets.{Bytes, Id}
 use Rattle.group_model.specs.Primitives.{KeyPair, Encapsulation, Content, Primitives}
@@ -21,18 +22,18 @@ pub record Draws : Type 0 where
   pub other : KeyPair
   pub encapsulation : Bytes
 
-pub data Event : Type 0 where
-  Sent : (draws : Draws) → Event
-  Opened : (part : Part) → (content : Content) → Event
+pub data PairEvent : Type 0 where
+  Sent : (draws : Draws) → PairEvent
+  Opened : (part : Part) → (content : Content) → PairEvent
 
 -- how many parts were sent
-abbrev pub sends : List Event → ℕ
+abbrev pub sends : List PairEvent → ℕ
 sends [] = 0
 sends (Sent d ∷ es) = sends es + 1
 sends (Opened part content ∷ es) = sends es
 
 -- own secret key i: number 0 is the card's, number n was made in send n
-unfoldable pub own_key : (card : KeyPair) → List Event → ℕ → Option Bytes
+unfoldable pub own_key : (card : KeyPair) → List PairEvent → ℕ → Option Bytes
 own_key card [] i = cond (nat_eq i 0) (Some card.secret) None
 own_key card (Sent d ∷ es) i = cond (nat_eq i (sends es + 1)) (Some d.own.secret) (own_key card es i)
 own_key card (Opened part content ∷ es) i = own_key card es i
@@ -43,13 +44,13 @@ drop_by true number below = below
 drop_by false number below = cond (nat_lt below (number + 1)) (number + 1) below
 
 -- own keys below this number are dropped
-abbrev pub dropped : List Event → ℕ
+abbrev pub dropped : List PairEvent → ℕ
 dropped [] = 0
 dropped (Sent d ∷ es) = dropped es
 dropped (Opened part content ∷ es) = drop_by part.made_by_sender part.number (dropped es)
 
 -- the content of the last opened part
-abbrev pub last_opened : List Event → Option Content
+abbrev pub last_opened : List PairEvent → Option Content
 last_opened [] = None
 last_opened (Sent d ∷ es) = last_opened es
 last_opened (Opened part content ∷ es) = Some content
@@ -65,7 +66,7 @@ key_at own below last true n = secret_if last n
 key_at own below last false n = cond (nat_lt n below) None (own n)
 
 -- the key by which a part would open
-abbrev pub key_of : (card : KeyPair) → List Event → Part → Option Bytes
+abbrev pub key_of : (card : KeyPair) → List PairEvent → Part → Option Bytes
 key_of card es part = key_at (own_key card es) (dropped es) (last_opened es) part.made_by_sender part.number
 
 -- the key that the next part is sealed to: the newest one that is known of the other side
@@ -74,14 +75,14 @@ pub record Target : Type 0 where
   pub number : ℕ
   pub public : Bytes
 
-abbrev pub target : (theirs : Bytes) → List Event → Target
+abbrev pub target : (theirs : Bytes) → List PairEvent → Target
 target theirs [] = record { made_by_sender = false; number = 0; public = theirs }
 target theirs (Sent d ∷ es) = record { made_by_sender = true; number = sends es + 1; public = d.other.public }
 target theirs (Opened part content ∷ es) =
     record { made_by_sender = false; number = content.number; public = content.public }
 
 -- the content of the next part
-abbrev pub content_of : List Event → Draws → (payload : Bytes) → Content
+abbrev pub content_of : List PairEvent → Draws → (payload : Bytes) → Content
 content_of es d payload = record {
   payload = payload;
   secret = d.other.secret;
@@ -114,9 +115,10 @@ module _ (K : Primitives) where
   })
 
   -- the next part to who has this public key on the card
-  abbrev pub part_to : (theirs : Bytes) → List Event → Draws → (payload : Bytes) → Option Part
+  abbrev pub part_to : (theirs : Bytes) → List PairEvent → Draws → (payload : Bytes) → Option Part
   part_to theirs es d payload =
-      sealed_part (target theirs es) (K.encapsulate (target theirs es).public d.encapsulation) (K.write (content_of es d payload))
+      sealed_part (target theirs es) (K.encapsulate (target theirs es).public d.encapsulation)
+      (K.write (content_of es d payload))
 
   -- what a part opens to by a secret key
   abbrev pub opened_by : Option Bytes → Part → Option Content
@@ -125,7 +127,7 @@ module _ (K : Primitives) where
       option_and_then K.read (option_and_then (λ key. K.unseal key part.sealed) (K.decapsulate secret part.ciphertext))
 
   -- what a part opens to
-  abbrev pub opened : (card : KeyPair) → List Event → Part → Option Content
+  abbrev pub opened : (card : KeyPair) → List PairEvent → Part → Option Content
   opened card es part = opened_by (key_of card es part) part
 
   -- a pair is tested
@@ -134,7 +136,7 @@ module _ (K : Primitives) where
 
   -- what one side sends next: from its events, with these draws and this payload, to who has this
   -- public key on the card
-  pub record Sends (theirs : Bytes) (es : List Event) (d : Draws) (payload : Bytes) (s : Sending) : Type 0 where
+  pub record Sends (theirs : Bytes) (es : List PairEvent) (d : Draws) (payload : Bytes) (s : Sending) : Type 0 where
     pub own_tested : IsTested d.own
     pub other_tested : IsTested d.other
     pub part : part_to theirs es d payload ≡ Some s.part
@@ -142,13 +144,13 @@ module _ (K : Primitives) where
 
   -- Two sides with tested pairs on their cards, each with its events, and the parts under way from the
   -- one and from the other, oldest first. Each takes the other's parts in the order sent.
-  pub data Joint (a b : KeyPair) : List Event → List Event → List Sending → List Sending → Type 0 where
+  pub data Joint (a b : KeyPair) : List PairEvent → List PairEvent → List Sending → List Sending → Type 0 where
     start : IsTested a → IsTested b → Joint a b [] [] [] []
-    a_sends : {ea eb : List Event} {qa qb : List Sending} (d : Draws) (payload : Bytes) (s : Sending)
+    a_sends : {ea eb : List PairEvent} {qa qb : List Sending} (d : Draws) (payload : Bytes) (s : Sending)
         → Sends b.public ea d payload s → Joint a b ea eb qa qb → Joint a b (Sent d ∷ ea) eb (qa ++ s ∷ []) qb
-    b_sends : {ea eb : List Event} {qa qb : List Sending} (d : Draws) (payload : Bytes) (s : Sending)
+    b_sends : {ea eb : List PairEvent} {qa qb : List Sending} (d : Draws) (payload : Bytes) (s : Sending)
         → Sends a.public eb d payload s → Joint a b ea eb qa qb → Joint a b ea (Sent d ∷ eb) qa (qb ++ s ∷ [])
-    b_takes : {ea eb : List Event} {qa qb : List Sending} (s : Sending)
+    b_takes : {ea eb : List PairEvent} {qa qb : List Sending} (s : Sending)
         → Joint a b ea eb (s ∷ qa) qb → Joint a b ea (Opened s.part s.content ∷ eb) qa qb
-    a_takes : {ea eb : List Event} {qa qb : List Sending} (s : Sending)
+    a_takes : {ea eb : List PairEvent} {qa qb : List Sending} (s : Sending)
         → Joint a b ea eb qa (s ∷ qb) → Joint a b (Opened s.part s.content ∷ ea) eb qa qb

@@ -1,17 +1,18 @@
--- The plain program's values as messages of the model. docs/SPECIFICATION.md, "The group", "The plain program".
+-- The plain program's values as messages of the model. docs/GROUP.md, "The plain program".
 use Rattle.std.specs.Prelude.{◌≡◌, ◌≢◌, ℕ, ◌+◌, Bool, true, cond, ◌⊎◌, List, [], ◌∷◌, map, replicate, bytes_eq}
 use Rattle.std.specs.Ordering.{nat_cmp, is_lt}
 use Rattle.std.specs.Cmp.Lexicographic.{slice_cmp}
 use Rattle.group_model.specs.Sets.{Id, In}
-use Rattle.group_model.specs.Messages.{Kind, Create, Update, Remove, Add, Ack, AddAck, Text, Message, History, Stands, past}
+use Rattle.group_model.specs.Messages.{Kind, Create, Update, Remove, Add, Ack, AddAck, Text, Message, History, Stands}
+use Rattle.group_model.specs.Messages.{past}
 use Rattle.group_model.specs.Membership.{IsSeeded, InView, IsRecipient, remove_wins}
 use Rattle.group_model.specs.Validity.{Answers}
-use Rattle.group_model.specs.declared.plain.Card.{Card}
-use Rattle.group_model.specs.declared.plain.Row.{Row}
-use Rattle.group_model.specs.declared.plain.Act.{Act}
-use Rattle.group_model.specs.declared.plain.Act.TheVariants as act
+use Rattle.group_model.specs.declared.plain.validity.Invitation.{Invitation}
+use Rattle.group_model.specs.declared.plain.messages.PlainMessage.{PlainMessage}
+use Rattle.group_model.specs.declared.plain.messages.PlainKind.{PlainKind}
+use Rattle.group_model.specs.declared.plain.messages.PlainKind.TheVariants as act
 
-abbrev pub kind_of : Act → Kind
+abbrev pub kind_of : PlainKind → Kind
 kind_of (act.Create members) = Create members.items
 kind_of act.Update = Update
 kind_of (act.Remove y) = Remove y
@@ -20,7 +21,7 @@ kind_of (act.Ack o took) = Ack o took
 kind_of (act.AddAck o) = AddAck o
 kind_of act.Text = Text
 
-abbrev pub message_of : Row → Message
+abbrev pub message_of : PlainMessage → Message
 message_of r = record {
   id = r.id;
   set = r.set;
@@ -32,7 +33,7 @@ message_of r = record {
 }
 
 -- the newest message first
-abbrev pub history_of : List Row → History
+abbrev pub history_of : List PlainMessage → History
 history_of rows = map message_of rows
 
 -- the answer m of the operation forwards to y
@@ -74,7 +75,7 @@ SuitsAck p s took o =
     (IsSeeded o.kind × (took ≡ true → InView remove_wins p o s × (s ≢ o.sender))) ⊎ (o.kind ≡ Add s)
 
 -- what the cards say of the inviter of an id: 32 zero bytes where no card is the id's
-abbrev pub inviter_in : List Card → Id → Id
+abbrev pub inviter_in : List Invitation → Id → Id
 inviter_in [] y = replicate 32 0
 inviter_in (card ∷ cards) y = cond (bytes_eq card.id y) card.inviter (inviter_in cards y)
 

@@ -1,5 +1,5 @@
 -- The primitives, as one record with their laws. A statement that takes this record holds for each choice of them. The
--- DCGKA paper's KDF, PKE and AEAD; docs/SPECIFICATION.md, "The group", "Primitives and key terms".
+-- DCGKA paper's KDF, PKE and AEAD; docs/GROUP.md, "Primitives and key terms".
 use Rattle.std.specs.Prelude.{◌≡◌, ℕ, Bool, true, Option, Some}
 use Rattle.group_model.specs.Sets.{Bytes}
 

@@ -1,4 +1,4 @@
--- Ids and byte strings, and membership in lists that stand for sets. docs/SPECIFICATION.md, "The group", "Messages and
+-- Ids and byte strings, and membership in lists that stand for sets. docs/GROUP.md, "Messages and
 -- histories".
 use Rattle.std.specs.Prelude.{ℕ, Bool, true, false, cond, List, [], ◌∷◌, bytes_eq}
 use Rattle.std.specs.Ordering.{nat_cmp}

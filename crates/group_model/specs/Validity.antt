@@ -1,9 +1,10 @@
 -- When a message is valid: seven rules over its past, each by its own name.
--- docs/SPECIFICATION.md, "The group", "Validity". The rules are this project's own.
+-- docs/GROUP.md, "Validity". The rules are this project's own.
 use Rattle.std.specs.Prelude.{◌≡◌, ◌≢◌, ℕ, ◌+◌, ◌<◌, ◌≤◌, Bool, true, false, cond, ◌⊎◌, List, [], ◌∷◌, length, bytes_eq}
 use Rattle.group_model.specs.Sets.{Id, In}
-use Rattle.group_model.specs.Messages.{Kind, Create, Update, Remove, Add, Ack, AddAck, Text, Message, History, past, AreHeads}
-use Rattle.group_model.specs.Membership.{Named, Removes, IsSeeded, InView, ids_named, AreAddressees}
+use Rattle.group_model.specs.Messages.{Kind, Create, Update, Remove, Add, Ack, AddAck, Text, Message, History, past}
+use Rattle.group_model.specs.Messages.{AreHeads}
+use Rattle.group_model.specs.Membership.{Named, IsSeeded, InView, ids_named, AreAddressees}
 
 -- an operation: a create, update, remove or add
 abbrev pub IsOperation : Kind → Type 0
@@ -112,16 +113,17 @@ IsInTurn p s Text = AnswersNone p s
 abbrev pub FollowsHeads : History → Message → Type 0
 FollowsHeads p m = AreHeads p m.predecessors
 
--- the member x answers the message in the step that takes it: an operation of another that does not remove x
-pub record NeedsAnswer (x : Id) (m : Message) : Type 0 where
+-- the member x with this history answers the message in the step that takes it: an operation of another, with which x
+-- is a member
+pub record NeedsAnswer (rule : History → List Id) (x : Id) (h : History) (m : Message) : Type 0 where
   pub operation : IsOperation m.kind
   pub others : m.sender ≢ x
-  pub stays : Removes m.kind x → ⊥
+  pub member : In x (rule (m ∷ h))
 
 -- Seventh rule, limits of the history of the member x that takes the message, with the answer that x then makes
-pub record IsWithinLimits (x : Id) (h : History) (m : Message) : Type 0 where
+pub record IsWithinLimits (rule : History → List Id) (x : Id) (h : History) (m : Message) : Type 0 where
   pub messages : length (m ∷ h) ≤ 4096
-  pub answer : NeedsAnswer x m → length (m ∷ h) + 1 ≤ 4096
+  pub answer : NeedsAnswer rule x h m → length (m ∷ h) + 1 ≤ 4096
   pub ids : length (ids_named (m ∷ h)) ≤ 32
 
 -- the message opens a history: the fourth rule for a create, over the empty history
@@ -145,6 +147,15 @@ pub record GoesOn (rule : History → List Id) (inviter : Id → Id) (p : Histor
 -- the message is valid over its past
 abbrev pub IsValid : (rule : History → List Id) → (inviter : Id → Id) → History → Message → Type 0
 IsValid rule inviter p m = Opens inviter m ⊎ GoesOn rule inviter p m
+
+-- no message of the history has the sender and the sequence number of the message
+abbrev pub IsUnforked : History → Message → Type 0
+IsUnforked h m = (a : Message) → In a h → a.sender ≡ m.sender → a.seq ≢ m.seq
+
+-- no two messages of the history have one sender and one sequence number
+abbrev pub AreUnforked : History → Type 0
+AreUnforked [] = Unit {0}
+AreUnforked (m ∷ older) = IsUnforked older m × AreUnforked older
 
 -- the message may be the next of the history
 abbrev pub MayFollow : (rule : History → List Id) → (inviter : Id → Id) → History → Message → Type 0

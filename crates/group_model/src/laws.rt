@@ -5,12 +5,12 @@ ghost use Rattle.group_model.specs.Sets.{Id, In, Within};
 ghost use Rattle.group_model.specs.Messages.{Message, History, past, IsHistory, AreHeads};
 ghost use Rattle.group_model.specs.Membership.{Named, IsMember, IsMembershipRule, remove_wins as members_by_rule};
 ghost use Rattle.group_model.specs.Primitives.{KeyPair, Primitives};
-ghost use Rattle.group_model.specs.Pairing.{Event, Sending, Joint, opened};
-ghost use Rattle.group_model.specs.Steps.{Setting};
+ghost use Rattle.group_model.specs.Pairing.{PairEvent, Sending, Joint, opened};
+ghost use Rattle.group_model.specs.Settings.{Setting, card_of};
 ghost use Rattle.group_model.specs.Knowledge.{known_of, learnt_of};
-ghost use Rattle.group_model.specs.SharedSecrets.{World, log_of};
-ghost use Rattle.group_model.specs.Worlds.{IsLawful};
-ghost use Rattle.group_model.specs.Conduct.{MadeIsValid, OwnRatchetKnown};
+ghost use Rattle.group_model.specs.Worlds.{Turns, log_of};
+ghost use Rattle.group_model.specs.LawfulWorlds.{IsLawful};
+ghost use Rattle.group_model.specs.Conduct.{MadeIsValid, MadeIsValidInWorlds, OwnRatchetKnown, OwnRatchetKnownInWorlds};
 ghost use Rattle.group_model.specs.Agreement.{IsEntitled, EqualSecrets, AuthenticTexts};
 
 /// A past is the least set of messages of a history that holds the predecessors and theirs. It depends on the
@@ -45,7 +45,7 @@ pub fn remove_wins()
 /// Where each of two members takes the other's parts in the order sent, each part opens to its content, however
 /// the two directions cross.
 pub fn parts_open()
-    ensures { (K : Primitives) (a b : KeyPair) (ea eb : List Event) (s : Sending) (qa qb : List Sending)
+    ensures { (K : Primitives) (a b : KeyPair) (ea eb : List PairEvent) (s : Sending) (qa qb : List Sending)
         → Joint K a b ea eb (s ∷ qa) qb → opened K b eb s.part ≡ Some s.content }
 {}
 
@@ -53,9 +53,11 @@ pub fn parts_open()
 /// that its maker's terms say, so any two such members know the same.
 pub fn equal_secrets()
     ensures terms { EqualSecrets }
-    ensures between_members { (G : Setting) (w : World) (x y : Id) (m : Message) → IsLawful G w → IsEntitled G w x m → IsEntitled G w y m
-        → (known_of G x (log_of w x) m ≡ known_of G y (log_of w y) m)
-        × (learnt_of G x (log_of w x) m ≡ learnt_of G y (log_of w y) m) }
+    ensures between_members { (G : Setting) (w : Turns) (x y : Id) (m : Message) → IsLawful G w → IsEntitled G w x m
+        → IsEntitled G w y m
+        → (known_of G.primitives (card_of G x) x (log_of w x) m ≡ known_of G.primitives (card_of G y) y (log_of w y) m)
+        × (learnt_of G.primitives (card_of G x) x (log_of w x) m
+        ≡ learnt_of G.primitives (card_of G y) y (log_of w y) m) }
 {}
 
 /// In every lawful world a member has, of each text that it is entitled to, the bytes that the sender sent.
@@ -63,14 +65,17 @@ pub fn authentic_texts()
     ensures { AuthenticTexts }
 {}
 
-/// In every lawful world what a member makes that answers at once is valid over its past, by the first to the sixth
-/// rule: what its commands look at over its whole history is what the rules ask over the past.
+/// With every lawful log, and so in every lawful world, what a member makes that answers at once is valid over its
+/// past, by the first to the sixth rule: what its commands look at over its whole history is what the rules ask over
+/// the past.
 pub fn made_messages_are_valid()
-    ensures { MadeIsValid }
+    ensures alone { MadeIsValid }
+    ensures in_worlds { MadeIsValidInWorlds }
 {}
 
-/// In every lawful world a member knows its own ratchet, whatever outsiders sent it: the payload of its adds and
-/// add-acks is always there.
+/// With every lawful log, and so in every lawful world, a member knows its own ratchet, whatever others sent it: the
+/// payload of its adds and add-acks is always there.
 pub fn own_ratchet_is_known()
-    ensures { OwnRatchetKnown }
+    ensures alone { OwnRatchetKnown }
+    ensures in_worlds { OwnRatchetKnownInWorlds }
 {}

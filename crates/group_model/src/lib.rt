@@ -4,5 +4,6 @@
 #![tactic(auto)]
 
 pub mod example;
+pub mod forms;
 pub mod laws;
 pub mod plain;

@@ -1,0 +1,14 @@
+use Rattle.group_model.proofs.forms.past_by_marks.Goals as goal
+use Rattle.group_model.proofs.Numbers.{past-marked, number-of, number-same, number-one}
+
+pub returns-clause-past : goal.returns-clause-past
+returns-clause-past c = λ h ids marks g k. past-marked h ids marks g k
+
+pub returns-clause-numbered : goal.returns-clause-numbered
+returns-clause-numbered c = λ h m i. number-of h i
+
+pub returns-clause-one_number : goal.returns-clause-one_number
+returns-clause-one_number c = λ h m i j g r s. number-same h g i j m r s
+
+pub returns-clause-one_message : goal.returns-clause-one_message
+returns-clause-one_message c = λ h m n i r s. number-one h i m n r s

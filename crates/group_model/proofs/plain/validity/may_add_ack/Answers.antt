@@ -1,0 +1,24 @@
+use Rattle.std.proofs.Common.{◌≡◌, ◌≢◌, refl}
+use Rattle.group_model.specs.Sets.{Id}
+use Rattle.group_model.specs.Messages.{Add, Message}
+use Rattle.group_model.specs.Plain.{message_of}
+use Rattle.group_model.proofs.Rows.{row-in, rows-end, all-more}
+use Rattle.group_model.proofs.plain.validity.may_add_ack.Goals as goal
+
+pub returns-then-not-allows_add_ack : goal.returns-then-not-allows_add_ack
+returns-then-not-allows_add_ack c = (
+  λ h. cc,
+  λ f. absurd (let t = c.allows_add_ack.ensures.1 (f (message_of c.row-item.result)
+      (row-in c.args.past.now c.loop-row.row-index c.row-item.result c.loop-row-test.true c.row-item.is)) in let g = c.if-not-allows_add_ack.true in cc),
+)
+
+pub loop-row-preserved : goal.loop-row-preserved
+loop-row-preserved c = all-more (λ (o : Message). o.id ≡ c.args.operation.now → (y : Id) × (o.kind ≡ Add y) × (y ≢ c.args.sender.now))
+    c.args.past.now c.loop-row.row-index c.row-item.result c.loop-row-test.true c.row-item.is c.loop-row.invariant
+    (c.allows_add_ack.ensures.0 c.if-not-allows_add_ack.false)
+
+pub returns : goal.returns
+returns c = (
+  λ h o k. c.loop-row.invariant o (rows-end c.args.past.now c.loop-row.row-index c.loop-row-test.false k),
+  λ f. refl,
+)

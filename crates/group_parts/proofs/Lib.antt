@@ -1,0 +1,4 @@
+pub mod Tested
+pub mod Written
+pub mod Spelled
+pub mod Lengths

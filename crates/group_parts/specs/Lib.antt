@@ -1,0 +1,4 @@
+pub mod Ratchets
+pub mod Contents
+pub mod KeyPairs
+pub mod Parts

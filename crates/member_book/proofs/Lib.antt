@@ -1,0 +1,10 @@
+pub mod OfOwner
+pub mod Logs
+pub mod Moved
+pub mod Kept
+pub mod Step
+pub mod LawsOfLogs
+pub mod Owned
+pub mod Calls
+pub mod PairStates
+pub mod Places
