@@ -1,4 +1,9 @@
-pub mod Endings
+pub mod Disks
+pub mod Kept
+pub mod Making
 pub mod Reading
 pub mod Records
-pub mod Stories
+pub mod Sums
+pub mod Telling
+pub mod Whole
+pub mod Written

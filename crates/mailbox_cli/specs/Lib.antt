@@ -1,9 +1,9 @@
-pub mod Card
-pub mod Ends
-pub mod Init
+pub mod Call
 pub mod Lines
 pub mod Opening
-pub mod Run
-pub mod Says
+pub mod Parts
+pub mod Receipts
+pub mod Runs
 pub mod Steps
+pub mod Story
 pub mod Words

@@ -1,5 +1,6 @@
 -- The steps that a journal stands for. So far there is one: `init`, which makes the member.
-use Rattle.std.specs.Prelude.{ℕ, ◌==◌, ◌&&◌, Bool, if◌then◌else◌, List, [], ◌∷◌, ◌++◌, length, take, drop, slice_index, replicate, Option, Some, None, Result, Ok, Err, is_some}
+use Rattle.std.specs.Prelude.{ℕ, ◌==◌, ◌&&◌, Bool, if◌then◌else◌, List, [], ◌∷◌, ◌++◌, length, take, drop, slice_index}
+use Rattle.std.specs.Prelude.{replicate, Option, Some, None, Result, Ok, Err, is_some}
 use Rattle.group_fields.specs.declared.ids.MemberId.{MemberId}
 use Rattle.kem_trait.specs.declared.kem.Kem.{Ghosts as KemGhosts}
 use Rattle.member_identity.specs.Identity.{Origin, secret_from}
@@ -21,8 +22,9 @@ inviter_of (Some id) = id.0.0
 abbrev pub step_of : List ℕ → Step
 step_of bytes = record { inviter = take 32 (drop 3 bytes); random = drop 35 bytes }
 
--- The first record makes the member, and no second one is known yet: the steps by the member that the first one makes, by its
--- place and by the records behind it. Otherwise the bytes are no journal at the place of the length field of the record.
+-- The first record makes the member, and no second one is known yet: the steps by the member that the first one makes,
+-- by its place and by the records behind it. Otherwise the bytes are no journal at the place of the length field of the
+-- record.
 abbrev pub steps_behind : Option Step → ℕ → List Entry → Result (List Step) ℕ
 steps_behind None place rest = Err place
 steps_behind (Some step) place [] = Ok (step ∷ [])
@@ -35,7 +37,8 @@ module _ {K P : Type 0} (kem : KemGhosts K P) where
 
   abbrev pub is_init : List ℕ → Bool
   is_init bytes =
-      length bytes == 67 && slice_index bytes 0 == 1 && slice_index bytes 1 == kem.SET && slice_index bytes 2 == tree_height
+      length bytes == 67 && slice_index bytes 0 == 1 && slice_index bytes 1 == kem.SET
+      && slice_index bytes 2 == tree_height
 
   -- the words of the random bytes give a usable key
   abbrev pub has_key : List ℕ → Bool

@@ -1,5 +1,6 @@
 -- The grammar of the words, and what a command line stands for.
-use Rattle.std.specs.Prelude.{ℕ, ◌+◌, ◌-◌, ◌*◌, ◌==◌, ◌&&◌, Bool, false, nat_eq, nat_le, if◌then◌else◌, List, [], ◌∷◌, length, Option, Some, None, codes}
+use Rattle.std.specs.Prelude.{ℕ, ◌+◌, ◌-◌, ◌*◌, ◌==◌, ◌&&◌, Bool, false, nat_eq, nat_le, if◌then◌else◌, List, [], ◌∷◌}
+use Rattle.std.specs.Prelude.{length, Option, Some, None, codes}
 use Rattle.std.specs.Cmp.Lexicographic.{pointwise}
 use Rattle.std.specs.Option.{option_and_then, option_map}
 use Rattle.mailbox_cli.specs.declared.command.Command.{Command}
@@ -14,8 +15,8 @@ is_option [] = false
 is_option (first ∷ []) = false
 is_option (first ∷ second ∷ rest) = first == 45
 
--- The values behind the first word: the first `--` among them is dropped, and all behind it are values. Before it a word that
--- looks like an option is refused.
+-- The values behind the first word: the first `--` among them is dropped, and all behind it are values. Before it a
+-- word that looks like an option is refused.
 abbrev pub values_of : List (List ℕ) → Option (List (List ℕ))
 values_of [] = Some []
 values_of (word ∷ words) =
@@ -25,7 +26,10 @@ values_of (word ∷ words) =
 
 -- the value of a lower-case hexadecimal digit
 abbrev pub digit_of : ℕ → Option ℕ
-digit_of c = if nat_le 48 c && nat_le c 57 then Some (c - 48) else (if nat_le 97 c && nat_le c 102 then Some (c - 87) else None)
+digit_of c =
+    if nat_le 48 c && nat_le c 57
+    then Some (c - 48)
+    else (if nat_le 97 c && nat_le c 102 then Some (c - 87) else None)
 
 -- the byte that two digits spell, the high one first
 abbrev pub byte_of : ℕ → ℕ → Option ℕ
@@ -63,3 +67,17 @@ command_with word values =
 abbrev pub command_of : List (List ℕ) → Option Command
 command_of [] = None
 command_of (word ∷ words) = option_and_then (command_with word) (values_of words)
+
+-- The words of the program, its name in front: the path of the journal, that of the mail folder, and the words of the
+-- command. Fewer than two words behind the name are none of these.
+abbrev pub journal_in : List (List ℕ) → List ℕ
+journal_in (name ∷ journal ∷ mail ∷ command) = journal
+journal_in words = []
+
+abbrev pub mail_in : List (List ℕ) → List ℕ
+mail_in (name ∷ journal ∷ mail ∷ command) = mail
+mail_in words = []
+
+abbrev pub command_in : List (List ℕ) → List (List ℕ)
+command_in (name ∷ journal ∷ mail ∷ command) = command
+command_in words = []

@@ -1,5 +1,7 @@
-ghost use Rattle.std.specs.Prelude.{◌≡◌, ◌++◌, ◌+◌, ◌*◌, ◌<◌, ◌∷◌, List, ℕ, [], length, Option, Some, None, IfSome, IfNone, MatchOption, nat_eq};
-ghost use Rattle.mailbox_cli.specs.Words.{command_of, init_of, without_values, values_of, is_option, id_of, byte_of, digit_of};
+ghost use Rattle.std.specs.Prelude.{◌≡◌, ◌++◌, ◌+◌, ◌*◌, ◌<◌, ◌∷◌, List, ℕ, [], length, Option, Some, None, IfSome};
+ghost use Rattle.std.specs.Prelude.{IfNone, MatchOption, nat_eq};
+ghost use Rattle.mailbox_cli.specs.Words.{command_of, init_of, without_values, values_of, is_option, id_of, byte_of};
+ghost use Rattle.mailbox_cli.specs.Words.{digit_of};
 
 use group_fields::{Digest, MemberId, Text};
 

@@ -1,4 +1,5 @@
-ghost use Rattle.std.specs.Prelude.{◌≡◌, ℕ, Some};
+ghost use Rattle.std.specs.Prelude.{◌≡◌, true};
+ghost use Rattle.mailbox_cli.specs.Lines.{fits};
 
 /// Why a command was refused.
 #[derive(Clone, Copy, Debug, PartialEq, Eq)]
@@ -20,6 +21,7 @@ pub enum Refusal {
 pub struct Ended {
     pub status: u8,
     pub refusal: Option<Refusal>,
+    ghost fits: { fits status refusal ≡ true },
 }
 
 impl Ended {
@@ -53,36 +55,4 @@ impl Ended {
         status: 9,
         refusal: None,
     };
-
-    /// The words spell no command.
-    pub(crate) const WORDS: Ended = Ended {
-        status: 2,
-        refusal: Some(Refusal::Words),
-    };
-    /// There is no member.
-    pub(crate) const NOT_MADE: Ended = Ended {
-        status: 3,
-        refusal: Some(Refusal::NotMade),
-    };
-    /// There is a member already.
-    pub(crate) const ALREADY_MADE: Ended = Ended {
-        status: 3,
-        refusal: Some(Refusal::AlreadyMade),
-    };
-    /// The random bytes give no usable key.
-    pub(crate) const NO_USABLE_KEY: Ended = Ended {
-        status: 3,
-        refusal: Some(Refusal::NoUsableKey),
-    };
-
-    /// The bytes of the disk are no journal at this place.
-    pub(crate) fn not_journal(place: u64) -> Ended
-        ensures status { result.status ≡ 8 }
-        ensures refusal { result.refusal ≡ Some (Refusal.NotJournal place) }
-    {
-        Ended {
-            status: 8,
-            refusal: Some(Refusal::NotJournal(place)),
-        }
-    }
 }

@@ -1,26 +1,29 @@
-ghost use Rattle.std.specs.Prelude.{◌≡◌, Option, [], Some, None};
-ghost use Rattle.disk_trait.specs.Moments.{OnlyReads};
-ghost use Rattle.group_fields.specs.declared.ids.MemberId.{MemberId};
-ghost use Rattle.mailbox_cli.specs.Words.{command_of};
-ghost use Rattle.mailbox_cli.specs.Card.{CardEnds};
-ghost use Rattle.mailbox_cli.specs.Init.{InitEnds};
-ghost use Rattle.mailbox_cli.specs.Run.{IsAcknowledged, IsAskedOnce, IsDurable, IsRefusedAtOnce, LeavesOthers, Stored, planned};
-ghost use Rattle.mailbox_cli.specs.declared.command.Command.TheVariants.{Init, Card};
+ghost use Rattle.std.specs.Prelude.{◌≡◌, true, None, Ok, IfSome, length};
+ghost use Rattle.std.specs.Option.{option_to_list};
+ghost use Rattle.member_identity.specs.Identity.{HasCards};
+ghost use Rattle.member_journal.specs.Journal.{disk_of, places};
+ghost use Rattle.mailbox_cli.specs.Call.{Carries, HasCauses, IsComplete, call_of, devices, moment};
+ghost use Rattle.mailbox_cli.specs.Opening.{EndsOpening};
+ghost use Rattle.mailbox_cli.specs.Parts.{Tells};
+ghost use Rattle.mailbox_cli.specs.Steps.{has_key, tree_height};
+ghost use Rattle.mailbox_cli.specs.Story.{command_story};
 
+use crate::answer::refuse;
 use crate::card::card;
-use crate::ended::Ended;
-use crate::ending::print_line;
+use crate::ended::{Ended, Refusal};
 use crate::init::init;
+use crate::step::{Opened, open_member};
 use crate::{Command, read_command};
 use disk_trait::Disk;
 use group_fields::Text;
 use kem_trait::Kem;
 use mail_trait::{Entropy, Post, Sink};
+use member_journal::JournalFault;
 use ntru_prime::Sntrup761;
 use std::alloc::Global;
 
-/// Carries out one command of a member: its words, the disk with its journal, its mail folder, a source of random bytes and
-/// the output for its lines. The disk is handed back beside the answer.
+/// Carries out one command of a member: its words, the disk with its journal, its mail folder, a source of random bytes
+/// and the output for its lines. The disk is handed back beside the answer.
 pub fn run<D: Disk, P: Post, E: Entropy, S: Sink>(
     alloc: Global,
     words: &[Text],
@@ -29,43 +32,82 @@ pub fn run<D: Disk, P: Post, E: Entropy, S: Sink>(
     entropy: &mut E,
     out: &mut S,
 ) -> (D, Ended)
-    // Words that spell no command.
-    ensures words { command_of words.now ≡ None → IsRefusedAtOnce ⟦<S as Sink>⟧
-        disk result.0 post.old post.new entropy.old entropy.new out.old out.new result.1 }
+    // The story of the words was carried out so far, and each failure has its cause.
+    ensures carries { let on = devices ⟦<D as Disk>⟧ ⟦<P as Post>⟧ ⟦<E as Entropy>⟧ ⟦<S as Sink>⟧ in
+        let before = moment disk post.old entropy.old out.old in
+        let after = moment result.0 post.new entropy.new out.new in
+        Carries ⟦<Sntrup761 as Kem>⟧ on (call_of words.now before after result.1) }
+    ensures causes { let on = devices ⟦<D as Disk>⟧ ⟦<P as Post>⟧ ⟦<E as Entropy>⟧ ⟦<S as Sink>⟧ in
+        let before = moment disk post.old entropy.old out.old in
+        let after = moment result.0 post.new entropy.new out.new in
+        HasCauses on before after result.1 }
+    ensures complete { let on = devices ⟦<D as Disk>⟧ ⟦<P as Post>⟧ ⟦<E as Entropy>⟧ ⟦<S as Sink>⟧ in
+        let before = moment disk post.old entropy.old out.old in
+        let after = moment result.0 post.new entropy.new out.new in
+        IsComplete ⟦<Sntrup761 as Kem>⟧ on (call_of words.now before after result.1) }
+{
+    run_with::<Sntrup761, D, P, E, S>(alloc, words, disk, post, entropy, out)
+}
 
-    // Each command: bytes that are no journal stay, and random bytes are asked for at most once.
-    ensures other { D.told → LeavesOthers ⟦<Sntrup761 as Kem>⟧ ⟦<D as Disk>⟧ disk result.0 }
-    ensures asked { E.told → IsAskedOnce (E.given entropy.old) (E.given entropy.new) }
-
-    // `init`: its answers and faults, what it leaves on the disk, and that an acknowledged step lasts.
-    ensures init_ends { (inviter : Option MemberId) → command_of words.now ≡ Some (Init inviter)
-        → InitEnds ⟦<Sntrup761 as Kem>⟧ ⟦<D as Disk>⟧ ⟦<E as Entropy>⟧ ⟦<S as Sink>⟧
-        disk result.0 entropy.old entropy.new out.old out.new result.1 }
-    ensures init_stores { (inviter : Option MemberId) → command_of words.now ≡ Some (Init inviter) → D.told → E.told
-        → Stored ⟦<Sntrup761 as Kem>⟧ ⟦<D as Disk>⟧
-        (planned ⟦<Sntrup761 as Kem>⟧ inviter (E.given entropy.old) (E.given entropy.new)) disk result.0 result.1 }
-    ensures init_lasts { (inviter : Option MemberId) → command_of words.now ≡ Some (Init inviter) → D.told → E.told
-        → IsAcknowledged ⟦<S as Sink>⟧ out.old out.new result.1 → IsDurable ⟦<Sntrup761 as Kem>⟧ ⟦<D as Disk>⟧
-        (planned ⟦<Sntrup761 as Kem>⟧ inviter (E.given entropy.old) (E.given entropy.new)) disk result.0 }
-    ensures init_posts_nothing { (inviter : Option MemberId) → command_of words.now ≡ Some (Init inviter) → post.new ≡ post.old }
-
-    // `card`: its answers and faults, what it puts into the mail folder among them, and that it only reads the disk.
-    ensures card_ends { command_of words.now ≡ Some Card → CardEnds ⟦<Sntrup761 as Kem>⟧ ⟦<D as Disk>⟧ ⟦<P as Post>⟧ ⟦<S as Sink>⟧
-        disk result.0 post.old post.new out.old out.new result.1 }
-    ensures card_stores { command_of words.now ≡ Some Card → D.told
-        → Stored ⟦<Sntrup761 as Kem>⟧ ⟦<D as Disk>⟧ [] disk result.0 result.1 }
-    ensures card_only_reads { command_of words.now ≡ Some Card → D.told
-        → OnlyReads D.content D.image D.clock D.image_since disk result.0 }
-    ensures card_draws_nothing { command_of words.now ≡ Some Card → entropy.new ≡ entropy.old }
+/// Carries out one command of a member whose pair is of this key encapsulation.
+pub(crate) fn run_with<K: Kem, D: Disk, P: Post, E: Entropy, S: Sink>(
+    alloc: Global,
+    words: &[Text],
+    disk: D,
+    post: &mut P,
+    entropy: &mut E,
+    out: &mut S,
+) -> (D, Ended)
+    requires { HasCards ⟦<K as Kem>⟧ tree_height }
+    ensures carries { let on = devices ⟦<D as Disk>⟧ ⟦<P as Post>⟧ ⟦<E as Entropy>⟧ ⟦<S as Sink>⟧ in
+        let before = moment disk post.old entropy.old out.old in
+        let after = moment result.0 post.new entropy.new out.new in
+        Carries ⟦<K as Kem>⟧ on (call_of words.now before after result.1) }
+    ensures causes { let on = devices ⟦<D as Disk>⟧ ⟦<P as Post>⟧ ⟦<E as Entropy>⟧ ⟦<S as Sink>⟧ in
+        let before = moment disk post.old entropy.old out.old in
+        let after = moment result.0 post.new entropy.new out.new in
+        HasCauses on before after result.1 }
 {
     match read_command(words) {
-        None => {
-            let ended = print_line(out, b"refused words\n", Ended::WORDS);
-            (disk, ended)
-        }
-        Some(Command::Init(inviter)) => {
-            init::<Sntrup761, D, E, S>(alloc, inviter, disk, entropy, out)
-        }
-        Some(Command::Card) => card::<Sntrup761, D, P, S>(alloc, disk, post, out),
+        None => (disk, refuse(alloc, Refusal::Words, out)),
+        Some(command) => match open_member::<K, D>(alloc, disk) {
+            Err((disk, fault)) => (disk, end_opening(alloc, fault, out)),
+            Ok(opened) => carry_out(alloc, command, opened, post, entropy, out),
+        },
+    }
+}
+
+/// Carries out a command over an open journal.
+fn carry_out<K: Kem, D: Disk, P: Post, E: Entropy, S: Sink>(
+    alloc: Global,
+    command: Command,
+    opened: Opened<K, D>,
+    post: &mut P,
+    entropy: &mut E,
+    out: &mut S,
+) -> (D, Ended)
+    requires cards { HasCards ⟦<K as Kem>⟧ tree_height }
+    requires usable { IfSome opened.member (λ member. has_key ⟦<K as Kem>⟧ member.random ≡ true) }
+    requires bare { opened.member ≡ None → length (places opened.journal) ≡ 0 }
+    ensures { let on = devices ⟦<D as Disk>⟧ ⟦<P as Post>⟧ ⟦<E as Entropy>⟧ ⟦<S as Sink>⟧ in
+        let steps = option_to_list opened.member in
+        Tells ⟦<K as Kem>⟧ on (command_story ⟦<K as Kem>⟧ command steps (P.files post.old)) (Ok steps)
+        (moment (disk_of opened.journal) post.old entropy.old out.old)
+        (moment result.0 post.new entropy.new out.new) result.1 }
+{
+    match command {
+        Command::Init(inviter) => init(alloc, inviter, opened, post, entropy, out),
+        Command::Card => card(alloc, opened, post, entropy, out),
+    }
+}
+
+/// Ends a call whose journal did not open.
+fn end_opening<S: Sink>(alloc: Global, fault: JournalFault, out: &mut S) -> Ended
+    ensures { EndsOpening ⟦<S as Sink>⟧ fault out.old out.new result }
+{
+    match fault {
+        JournalFault::Disk => Ended::DISK_FAULT,
+        JournalFault::Memory => Ended::NO_MEMORY,
+        JournalFault::NotJournal(place) => refuse(alloc, Refusal::NotJournal(place), out),
     }
 }

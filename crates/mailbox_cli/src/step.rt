@@ -1,12 +1,17 @@
-ghost use Rattle.std.specs.Prelude.{◌≡◌, ◌<◌, ◌≤◌, ◌+◌, ◌++◌, take, drop, ℕ, List, [], ◌∷◌, length, slice_get, Some, None, Ok, Err, IfOk, IfErr, IsErrOf};
+ghost use Rattle.std.specs.Prelude.{◌≡◌, ◌<◌, ◌≤◌, ◌+◌, ◌++◌, take, drop, ℕ, List, [], ◌∷◌, length, slice_get, Some};
+ghost use Rattle.std.specs.Prelude.{None, Ok, Err, IfOk, IfErr, IfSome, IsErrOf, true};
 ghost use Rattle.std.specs.Option.{option_to_list};
 ghost use Rattle.disk_trait.specs.Disk.{LeavesOnly};
 ghost use Rattle.member_journal.specs.Journal.{disk_of, entries, records, places};
 ghost use Rattle.member_journal.specs.Scan.{FaultHasCause, KeepsDisk};
 ghost use Rattle.member_journal.specs.declared.fault.JournalFault.TheVariants.{NotJournal};
-ghost use Rattle.mailbox_cli.specs.Opening.{disk_after, fault_in};
-ghost use Rattle.mailbox_cli.specs.Steps.{record_of, inviter_of, is_init, step_of, member_of, steps_of};
+ghost use Rattle.member_journal.specs.Format.{most_records, longest_record};
+ghost use Rattle.mailbox_cli.specs.Opening.{disk_after, fault_in, IsNext};
+ghost use Rattle.mailbox_cli.specs.Parts.{DiskDid, DiskStops, IsFaultOf};
+ghost use Rattle.mailbox_cli.specs.Steps.{Step, record_of, inviter_of, is_init, has_key, step_of, member_of, steps_of};
+ghost use Rattle.mailbox_cli.specs.Story.{Event, plans};
 
+use crate::ended::Ended;
 use disk_trait::Disk;
 use group_fields::{Digest, MemberId, Memory};
 use kem_trait::{Kem, KemRefusal};
@@ -61,12 +66,17 @@ pub(crate) fn open_member<K: Kem, D: Disk>(
     alloc: Global,
     disk: D,
 ) -> Result<Opened<K, D>, (D, JournalFault)>
-    ensures steps { D.told → IfOk result (λ opened. steps_of ⟦<K as Kem>⟧ (D.content disk) ≡ Ok (option_to_list opened.member)) }
+    ensures steps { D.told → IfOk result (λ opened.
+        steps_of ⟦<K as Kem>⟧ (D.content disk) ≡ Ok (option_to_list opened.member)) }
+    ensures usable { IfOk result (λ opened. IfSome opened.member (λ member.
+        has_key ⟦<K as Kem>⟧ member.random ≡ true)) }
     ensures bare { IfOk result (λ opened. opened.member ≡ None → length (places opened.journal) ≡ 0) }
     ensures settled { D.told → IfOk result (λ opened. LeavesOnly (D.content disk) (D.image (disk_of opened.journal))) }
-    ensures keeps { KeepsDisk D.told D.content D.image D.clock D.image_since D.follows disk (disk_after (λ opened. disk_of opened.journal) result) }
-    ensures not_journal { D.told → IfErr result (λ refused. (place : ℕ) → refused.1 ≡ NotJournal place → steps_of ⟦<K as Kem>⟧ (D.content disk) ≡ Err place) }
-    ensures cause { FaultHasCause (D.counts disk) (D.counts (disk_after (λ opened. disk_of opened.journal) result)) (fault_in result) }
+    ensures keeps { KeepsDisk ⟦<D as Disk>⟧ disk (disk_after (λ opened. disk_of opened.journal) result) }
+    ensures not_journal { D.told → IfErr result (λ refused. (place : ℕ) → refused.1 ≡ NotJournal place
+        → steps_of ⟦<K as Kem>⟧ (D.content disk) ≡ Err place) }
+    ensures cause { FaultHasCause ⟦<D as Disk>⟧ disk (disk_after (λ opened. disk_of opened.journal) result)
+        (fault_in result) }
 {
     let mut journal = Journal::open(alloc, disk)?;
     if journal.count() == 0 {
@@ -96,13 +106,16 @@ fn read_member<K: Kem, D: Disk>(
     journal: &mut Journal<D>,
 ) -> Result<Identity<K>, JournalFault>
     requires { 0 < length (places journal.old) }
-    ensures member { D.told → IfOk result (λ member. (first : List ℕ) × (slice_get (records D.content journal.old) 0 ≡ Some first) × (member_of ⟦<K as Kem>⟧ first ≡ Some member)) }
-    ensures no_member { D.told → (place : ℕ) → IsErrOf result (NotJournal place) → (first : List ℕ) × (slice_get (records D.content journal.old) 0 ≡ Some first) × (member_of ⟦<K as Kem>⟧ first ≡ None) }
+    ensures member { D.told → IfOk result (λ member. (first : List ℕ)
+        × (slice_get (records journal.old) 0 ≡ Some first) × (member_of ⟦<K as Kem>⟧ first ≡ Some member)) }
+    ensures usable { IfOk result (λ member. has_key ⟦<K as Kem>⟧ member.random ≡ true) }
+    ensures no_member { D.told → (place : ℕ) → IsErrOf result (NotJournal place) → (first : List ℕ)
+        × (slice_get (records journal.old) 0 ≡ Some first) × (member_of ⟦<K as Kem>⟧ first ≡ None) }
     ensures place { (place : ℕ) → IsErrOf result (NotJournal place) → slice_get (places journal.old) 0 ≡ Some place }
-    ensures same { D.told → entries D.content journal.new ≡ entries D.content journal.old }
+    ensures same { D.told → entries journal.new ≡ entries journal.old }
     ensures places { places journal.new ≡ places journal.old }
-    ensures keeps { KeepsDisk D.told D.content D.image D.clock D.image_since D.follows (disk_of journal.old) (disk_of journal.new) }
-    ensures cause { FaultHasCause (D.counts (disk_of journal.old)) (D.counts (disk_of journal.new)) result }
+    ensures keeps { KeepsDisk ⟦<D as Disk>⟧ (disk_of journal.old) (disk_of journal.new) }
+    ensures cause { FaultHasCause ⟦<D as Disk>⟧ (disk_of journal.old) (disk_of journal.new) result }
 {
     let first = journal.read(0)?;
     match member_of(alloc, first.as_slice())? {
@@ -144,4 +157,30 @@ fn parts_of(bytes: &[u8]) -> (MemberId, [u8; 32])
     let mut random = [0; 32];
     random.copy_from_slice(&bytes[35..]);
     (MemberId(Digest(inviter)), random)
+}
+
+/// Makes a step durable by its record.
+pub(crate) fn commit<K: Kem, D: Disk>(
+    journal: Journal<D>,
+    bytes: &[u8],
+) -> Result<Journal<D>, (D, Ended)>
+    requires few { length (places journal) < most_records }
+    requires not_empty { 1 ≤ length bytes.now }
+    requires not_long { length bytes.now ≤ longest_record }
+    ensures did { D.told → (steps : List Step) (step : Step) → IsNext ⟦<K as Kem>⟧ journal bytes.now steps step
+        → IfOk result (λ next. DiskDid ⟦<K as Kem>⟧ ⟦<D as Disk>⟧ (plans step ∷ []) (Ok steps)
+        (disk_of journal) (disk_of next)) }
+    ensures stops { D.told → (steps : List Step) (step : Step) (later : List Event)
+        → IsNext ⟦<K as Kem>⟧ journal bytes.now steps step
+        → IfErr result (λ refused. DiskStops ⟦<K as Kem>⟧ ⟦<D as Disk>⟧ (plans step ∷ later) (Ok steps)
+        (disk_of journal) refused.0) }
+    ensures counts { IfOk result (λ next. D.counts (disk_of next) ≡ D.counts (disk_of journal)) }
+    ensures cause { IfErr result (λ refused. IsFaultOf 4 (D.counts (disk_of journal)) (D.counts refused.0) refused.1) }
+{
+    match journal.append(bytes) {
+        Ok(journal) => Ok(journal),
+        Err((disk, JournalFault::Disk)) => Err((disk, Ended::DISK_FAULT)),
+        Err((disk, JournalFault::Memory)) => Err((disk, Ended::NO_MEMORY)),
+        Err((_, JournalFault::NotJournal(_))) => unreachable!(),
+    }
 }

@@ -1,11 +1,16 @@
-ghost use Rattle.std.specs.Prelude.{◌≤◌};
+ghost use Rattle.std.specs.Prelude.{Bool, true, false, if◌then◌else◌, Option, Some, None, is_some, List, ℕ, [], length, refl};
+ghost use Rattle.std.proofs.Common.{ap, inr};
+ghost use Rattle.kem_trait.specs.Encapsulated.{Encapsulated};
 
+use crate::run::run_with;
 use crate::{Command, Ended, Refusal, read_command, run};
 use disk_trait::{Disk, MemDisk};
-use group_fields::{Bytes, Digest, MemberId, Text};
+use group_fields::{Bytes, Digest, MemberId, Memory, Text};
+use kem_trait::{Kem, KemRefusal, Words};
 use mail_trait::{MemEntropy, MemPost, MemSink, Post};
+use member_identity::Identity;
 use std::alloc::Global;
-use std::process::Abort;
+use std::convert::Infallible;
 use std::test::Fail;
 
 /// The words that spaces part.
@@ -17,20 +22,48 @@ fn words_of(alloc: Global, line: &str) -> Result<Vec<Text>, Fail> {
     Ok(words)
 }
 
-/// A settled disk with this content.
-fn disk_with(alloc: Global, bytes: &[u8]) -> Result<MemDisk, Fail> {
-    let mut disk = MemDisk::honest(alloc);
-    disk.write_at(0, bytes)?;
-    disk.sync()?;
+/// A settled disk with this content, whose calls of these numbers fail.
+fn disk_with(alloc: Global, bytes: &[u8], failing: &[u32]) -> Result<MemDisk, Fail> {
+    let mut disk = MemDisk::new(alloc, failing)?;
+    if bytes.len() > 0 {
+        disk.write_at(0, bytes)?;
+        disk.sync()?;
+    }
     Ok(disk)
 }
 
-/// A run of the words over a disk: the disk afterwards, the answer, and what was written. The seed is 32 times 7.
-fn run_over(alloc: Global, line: &str, disk: MemDisk) -> Result<(MemDisk, Ended, Bytes), Fail> {
+/// The numbers of the calls of each device that fail.
+#[derive(Clone, Copy)]
+struct Failing {
+    disk: &'static [u32],
+    post: &'static [u32],
+    entropy: &'static [u32],
+    output: &'static [u32],
+}
+
+const HONEST: Failing = Failing {
+    disk: &[],
+    post: &[],
+    entropy: &[],
+    output: &[],
+};
+
+/// How a run ended, what it wrote, and the devices after it.
+#[derive(Drop)]
+struct Seen {
+    status: u8,
+    line: Bytes,
+    disk: MemDisk,
+    post: MemPost,
+    asked: u64,
+}
+
+/// A run of the words over a disk. The source has one seed, 32 times 7.
+fn run_over(alloc: Global, line: &str, disk: MemDisk, failing: Failing) -> Result<Seen, Fail> {
     let words = words_of(alloc, line)?;
-    let mut entropy = MemEntropy::new(alloc, &[[7; 32]], &[])?;
-    let mut out = MemSink::honest(alloc);
-    let mut post = MemPost::honest(alloc);
+    let mut entropy = MemEntropy::new(alloc, &[[7; 32]], failing.entropy)?;
+    let mut out = MemSink::new(alloc, failing.output)?;
+    let mut post = MemPost::new(alloc, failing.post)?;
     let (disk, ended) = run(
         alloc,
         words.as_slice(),
@@ -39,40 +72,17 @@ fn run_over(alloc: Global, line: &str, disk: MemDisk) -> Result<(MemDisk, Ended,
         &mut entropy,
         &mut out,
     );
-    Ok((disk, ended, Bytes::copy_of(alloc, out.bytes())?))
+    let line = Bytes::copy_of(alloc, out.bytes())?;
+    Ok(Seen {
+        status: ended.status,
+        line,
+        disk,
+        post,
+        asked: entropy.asked(),
+    })
 }
 
-/// A run of `card` over a disk and a mail folder, with an output whose calls of these numbers fail: the disk afterwards, the
-/// answer, and what was written. No random bytes are to be had.
-fn put_card(
-    alloc: Global,
-    disk: MemDisk,
-    post: &mut MemPost,
-    failing: &[u32],
-) -> Result<(MemDisk, Ended, Bytes), Fail> {
-    let words = words_of(alloc, "card")?;
-    let mut entropy = MemEntropy::new(alloc, &[], &[])?;
-    let mut out = MemSink::new(alloc, failing)?;
-    let (disk, ended) = run(alloc, words.as_slice(), disk, post, &mut entropy, &mut out);
-    Ok((disk, ended, Bytes::copy_of(alloc, out.bytes())?))
-}
-
-/// The file of a name in a mail folder, or no bytes where there is none.
-fn file_of(alloc: Global, post: &mut MemPost, name: &str) -> Result<Bytes, Fail> {
-    match post.read(name, 2000)? {
-        Some(bytes) => Ok(bytes),
-        None => Ok(Bytes::copy_of(alloc, b"")?),
-    }
-}
-
-/// The bytes of a made member: the inviter's id, or zeros, and the seed.
-fn made_bytes(inviter: u8) -> [u8; 81] {
-    let mut bytes = [0; 81];
-    bytes[..16].copy_from_slice(b"DCGKAJ1\n\x01\0\0\0\x43\x01\x01\x0a");
-    bytes[16..48].fill(inviter);
-    bytes[48..80].fill(7);
-    bytes
-}
+const INIT_ID: &str = "init 1f1f1f1f1f1f1f1f1f1f1f1f1f1f1f1f1f1f1f1f1f1f1f1f1f1f1f1f1f1f1f1f";
 
 #[test]
 fn reads_the_words(rt: HostRuntime) -> Result<(), Fail> {
@@ -86,16 +96,9 @@ fn reads_the_words(rt: HostRuntime) -> Result<(), Fail> {
         ("init -- --", None),
         ("init -x", None),
         ("init 00", None),
-        (
-            "init 1f1f1f1f1f1f1f1f1f1f1f1f1f1f1f1f1f1f1f1f1f1f1f1f1f1f1f1f1f1f1f1f",
-            id,
-        ),
+        (INIT_ID, id),
         (
             "init -- 1f1f1f1f1f1f1f1f1f1f1f1f1f1f1f1f1f1f1f1f1f1f1f1f1f1f1f1f1f1f1f1f",
-            id,
-        ),
-        (
-            "init 1f1f1f1f1f1f1f1f1f1f1f1f1f1f1f1f1f1f1f1f1f1f1f1f1f1f1f1f1f1f1f1f --",
             id,
         ),
         (
@@ -108,7 +111,6 @@ fn reads_the_words(rt: HostRuntime) -> Result<(), Fail> {
         ),
         ("card", Some(Command::Card)),
         ("card --", Some(Command::Card)),
-        ("card x", None),
         ("card -- x", None),
         ("card -x", None),
         ("show", None),
@@ -120,195 +122,437 @@ fn reads_the_words(rt: HostRuntime) -> Result<(), Fail> {
     Ok(())
 }
 
-#[test]
-fn makes_a_member_once(rt: HostRuntime) -> Result<(), Fail> {
-    let made = made_bytes(0);
-    let (mut disk, ended, line) = run_over(rt.alloc(), "init", MemDisk::honest(rt.alloc()))?;
-    assert_eq!(rt; ended, Ended::DONE);
-    assert_eq!(rt; line.as_slice(), b"made\n".as_slice());
-    disk.crash(0);
-    assert_eq!(rt; disk.bytes(), made.as_slice());
-    let (disk, ended, line) = run_over(rt.alloc(), "init", disk)?;
-    assert_eq!(rt; ended.status, 3);
-    assert_eq!(rt; ended.refusal, Some(Refusal::AlreadyMade));
-    assert_eq!(rt; line.as_slice(), b"refused already-made\n".as_slice());
-    assert_eq!(rt; disk.bytes(), made.as_slice());
-    Ok(())
-}
-
-#[test]
-fn writes_the_inviter(rt: HostRuntime) -> Result<(), Fail> {
-    let line = "init 1f1f1f1f1f1f1f1f1f1f1f1f1f1f1f1f1f1f1f1f1f1f1f1f1f1f1f1f1f1f1f1f";
-    let (disk, ended, _) = run_over(rt.alloc(), line, MemDisk::honest(rt.alloc()))?;
-    assert_eq!(rt; ended.status, 0);
-    assert_eq!(rt; disk.bytes(), made_bytes(0x1f).as_slice());
-    Ok(())
-}
-
-#[test]
-fn answers_by_what_the_disk_has(rt: HostRuntime) -> Result<(), Fail> {
-    let made = made_bytes(0);
-    let mut second = made_bytes(0).as_slice().to_vec(rt.alloc())?;
-    second.pop();
-    second.extend_from_slice(b"\x01\0\0\0\x01c\0")?;
-    let cases = [
-        (
-            b"\xff\xff\xff\xff\xff\xff\xff\xff\xff".as_slice(),
-            0,
-            "made\n",
-        ),
-        (b"DCGKAJ1\n\0".as_slice(), 0, "made\n"),
-        (
-            b"\xff\xff\xff\xff\xff\xff\xff\xff\xff\xff\xff\xff".as_slice(),
-            8,
-            "not a journal 0\n",
-        ),
-        (
-            b"DCGKAJ1\n\x01\0\0\0\x01c\0".as_slice(),
-            8,
-            "not a journal 9\n",
-        ),
-        (second.as_slice(), 8, "not a journal 81\n"),
-        (made.as_slice(), 3, "refused already-made\n"),
-    ];
-    for (bytes, status, want) in cases {
-        let (disk, ended, line) = run_over(rt.alloc(), "init", disk_with(rt.alloc(), bytes)?)?;
-        assert_eq!(rt; ended.status, status);
-        assert_eq!(rt; line.as_slice(), want.as_bytes());
-        let left = if status == 0 { made.as_slice() } else { bytes };
-        assert_eq!(rt; disk.bytes(), left);
-    }
-    Ok(())
-}
-
-#[test]
-fn refuses_other_words(rt: HostRuntime) -> Result<(), Fail> {
-    for line in ["", "send", "init -x", "init 00"] {
-        let (disk, ended, said) = run_over(rt.alloc(), line, MemDisk::honest(rt.alloc()))?;
-        assert_eq!(rt; ended.status, 2);
-        assert_eq!(rt; ended.refusal, Some(Refusal::Words));
-        assert_eq!(rt; said.as_slice(), b"refused words\n".as_slice());
-        assert_eq!(rt; disk.bytes(), b"".as_slice());
-    }
-    Ok(())
-}
-
-#[test]
-fn names_the_device_that_failed(rt: HostRuntime) -> Result<(), Fail> {
-    // the failing call of the source and that of the output, the status, and the bytes left
-    let cases = [(1, 9, 6, 0), (9, 1, 7, 81)];
-    for (source, output, status, left) in cases {
-        let words = words_of(rt.alloc(), "init")?;
-        let mut entropy = MemEntropy::new(rt.alloc(), &[[7; 32]], &[source])?;
-        let mut out = MemSink::new(rt.alloc(), &[output])?;
-        let mut post = MemPost::honest(rt.alloc());
-        let disk = MemDisk::honest(rt.alloc());
-        let (disk, ended) = run(
-            rt.alloc(),
-            words.as_slice(),
-            disk,
-            &mut post,
-            &mut entropy,
-            &mut out,
-        );
-        assert_eq!(rt; ended.status, status);
-        assert_eq!(rt; out.bytes(), b"".as_slice());
-        assert_eq!(rt; disk.bytes().len(), left);
-    }
-    Ok(())
-}
-
-/// The numbers of all calls of the disk that an `init` makes.
-const CALLS: [u32; 10] = [1, 2, 3, 4, 5, 6, 7, 8, 9, 10];
-
-/// The statuses of an `init` whose disk fails after so many calls, and of one on what a crash leaves of it.
-fn statuses(rt: &impl Abort, alloc: Global, honest: usize, image: u8) -> Result<(u8, u8), Fail>
-    requires { image ≤ 2 }
-{
-    let failing = CALLS.get(honest..).unwrap_or(&[]);
-    let (mut disk, first, _) = run_over(alloc, "init", MemDisk::new(alloc, failing)?)?;
-    disk.crash(image);
-    let left = disk_with(alloc, disk.bytes())?;
-    let (disk, second, _) = run_over(alloc, "init", left)?;
-    assert_eq!(rt; disk.bytes(), made_bytes(0).as_slice());
-    Ok((first.status, second.status))
-}
-
-#[test]
-fn a_crash_leaves_a_member_or_none(rt: HostRuntime) -> Result<(), Fail> {
-    // calls that succeed, from and to, the status, and that of a run after a crash that leaves no pending write, all, or all
-    // inverted
-    let cases = [
-        (0, 8, 4, [0, 0, 0]),
-        (9, 9, 4, [0, 3, 0]),
-        (10, 10, 0, [3, 3, 3]),
-    ];
-    for (from, to, status, [none, all, inverted]) in cases {
-        for honest in from..=to {
-            for (image, after) in [(0, none), (1, all), (2, inverted)] {
-                let (first, second) = statuses(&rt, rt.alloc(), honest, image)?;
-                assert_eq!(rt; first, status, "after {honest} calls");
-                assert_eq!(rt; second, after, "image {image} after {honest} calls");
-            }
-        }
-    }
-    Ok(())
-}
-
 /// The id of the card of a member without inviter whose random bytes are 32 times 7.
 const CARD_ID: &str = "77195ebece4c8a96eb0a442fc7a7fab0d3fa5e9b3724fbed34f572c5662d0eb9";
 
+const CARD_LINE: &str = "card 77195ebece4c8a96eb0a442fc7a7fab0d3fa5e9b3724fbed34f572c5662d0eb9\n";
+
+/// A run: its words, the calls that fail, and the bytes before. Then the status, the output, the bytes after, and how
+/// often the source was asked.
+#[derive(Clone, Copy)]
+struct Case {
+    words: &'static str,
+    failing: Failing,
+    bytes: &'static [u8],
+    status: u8,
+    output: &'static str,
+    left: &'static [u8],
+    asked: u64,
+}
+
+const NO_POST: Failing = Failing {
+    disk: &[],
+    post: &[1],
+    entropy: &[],
+    output: &[],
+};
+
+const NO_ENTROPY: Failing = Failing {
+    disk: &[],
+    post: &[],
+    entropy: &[1],
+    output: &[],
+};
+
+const NO_OUTPUT: Failing = Failing {
+    disk: &[],
+    post: &[],
+    entropy: &[],
+    output: &[1],
+};
+
+const EMPTY: &[u8] = b"";
+
+/// At most nine bytes are an empty journal, whatever they are.
+const SHORT: &[u8] = b"\xff\xff\xff\xff\xff\xff\xff\xff\xff";
+
+const SHUT: &[u8] = b"DCGKAJ1\n\0";
+
+const OTHER: &[u8] = b"\xff\xff\xff\xff\xff\xff\xff\xff\xff\xff\xff\xff";
+
+const WRONG: &[u8] = b"DCGKAJ1\n\x01\0\0\0\x01c\0";
+
+/// A member without inviter.
+const MADE: &[u8] =
+    b"DCGKAJ1\n\x01\0\0\0\x43\x01\x01\x0a\0\0\0\0\0\0\0\0\0\0\0\0\0\0\0\0\0\0\0\0\0\0\0\0\0\0\0\0\0\0\0\0\x07\x07\x07\x07\x07\x07\x07\x07\x07\x07\x07\x07\x07\x07\x07\x07\x07\x07\x07\x07\x07\x07\x07\x07\x07\x07\x07\x07\x07\x07\x07\x07\0";
+
+/// A member with an inviter.
+const INVITED: &[u8] =
+    b"DCGKAJ1\n\x01\0\0\0\x43\x01\x01\x0a\x1f\x1f\x1f\x1f\x1f\x1f\x1f\x1f\x1f\x1f\x1f\x1f\x1f\x1f\x1f\x1f\x1f\x1f\x1f\x1f\x1f\x1f\x1f\x1f\x1f\x1f\x1f\x1f\x1f\x1f\x1f\x1f\x07\x07\x07\x07\x07\x07\x07\x07\x07\x07\x07\x07\x07\x07\x07\x07\x07\x07\x07\x07\x07\x07\x07\x07\x07\x07\x07\x07\x07\x07\x07\x07\0";
+
+/// A member, and a second record.
+const SECOND: &[u8] =
+    b"DCGKAJ1\n\x01\0\0\0\x43\x01\x01\x0a\0\0\0\0\0\0\0\0\0\0\0\0\0\0\0\0\0\0\0\0\0\0\0\0\0\0\0\0\0\0\0\0\x07\x07\x07\x07\x07\x07\x07\x07\x07\x07\x07\x07\x07\x07\x07\x07\x07\x07\x07\x07\x07\x07\x07\x07\x07\x07\x07\x07\x07\x07\x07\x07\x01\0\0\0\x01c\0";
+
+const CASES: [Case; 17] = [
+    Case {
+        words: "init",
+        failing: HONEST,
+        bytes: EMPTY,
+        status: 0,
+        output: "made\n",
+        left: MADE,
+        asked: 1,
+    },
+    Case {
+        words: "init",
+        failing: HONEST,
+        bytes: SHORT,
+        status: 0,
+        output: "made\n",
+        left: MADE,
+        asked: 1,
+    },
+    Case {
+        words: "init",
+        failing: HONEST,
+        bytes: SHUT,
+        status: 0,
+        output: "made\n",
+        left: MADE,
+        asked: 1,
+    },
+    Case {
+        words: INIT_ID,
+        failing: HONEST,
+        bytes: EMPTY,
+        status: 0,
+        output: "made\n",
+        left: INVITED,
+        asked: 1,
+    },
+    Case {
+        words: "init",
+        failing: HONEST,
+        bytes: MADE,
+        status: 3,
+        output: "refused already-made\n",
+        left: MADE,
+        asked: 0,
+    },
+    Case {
+        words: "init",
+        failing: HONEST,
+        bytes: OTHER,
+        status: 8,
+        output: "not a journal 0\n",
+        left: OTHER,
+        asked: 0,
+    },
+    Case {
+        words: "init",
+        failing: HONEST,
+        bytes: WRONG,
+        status: 8,
+        output: "not a journal 9\n",
+        left: WRONG,
+        asked: 0,
+    },
+    Case {
+        words: "init",
+        failing: HONEST,
+        bytes: SECOND,
+        status: 8,
+        output: "not a journal 81\n",
+        left: SECOND,
+        asked: 0,
+    },
+    Case {
+        words: "card",
+        failing: HONEST,
+        bytes: MADE,
+        status: 0,
+        output: CARD_LINE,
+        left: MADE,
+        asked: 0,
+    },
+    Case {
+        words: "card",
+        failing: HONEST,
+        bytes: EMPTY,
+        status: 3,
+        output: "refused not-made\n",
+        left: EMPTY,
+        asked: 0,
+    },
+    Case {
+        words: "card",
+        failing: HONEST,
+        bytes: OTHER,
+        status: 8,
+        output: "not a journal 0\n",
+        left: OTHER,
+        asked: 0,
+    },
+    Case {
+        words: "send",
+        failing: HONEST,
+        bytes: MADE,
+        status: 2,
+        output: "refused words\n",
+        left: MADE,
+        asked: 0,
+    },
+    Case {
+        words: "",
+        failing: HONEST,
+        bytes: EMPTY,
+        status: 2,
+        output: "refused words\n",
+        left: EMPTY,
+        asked: 0,
+    },
+    Case {
+        words: "init",
+        failing: NO_ENTROPY,
+        bytes: EMPTY,
+        status: 6,
+        output: "",
+        left: EMPTY,
+        asked: 1,
+    },
+    Case {
+        words: "init",
+        failing: NO_OUTPUT,
+        bytes: EMPTY,
+        status: 7,
+        output: "",
+        left: MADE,
+        asked: 1,
+    },
+    Case {
+        words: "card",
+        failing: NO_POST,
+        bytes: MADE,
+        status: 5,
+        output: "",
+        left: MADE,
+        asked: 0,
+    },
+    Case {
+        words: "card",
+        failing: NO_OUTPUT,
+        bytes: MADE,
+        status: 7,
+        output: "",
+        left: MADE,
+        asked: 0,
+    },
+];
+
+/// Whether a run ends as its case says.
+fn is_as_said(alloc: Global, case: Case) -> Result<bool, Fail> {
+    let disk = disk_with(alloc, case.bytes, case.failing.disk)?;
+    let seen = run_over(alloc, case.words, disk, case.failing)?;
+    Ok(
+        seen.status == case.status
+            && seen.line.as_slice() == case.output.as_bytes()
+            && seen.disk.bytes() == case.left
+            && seen.asked == case.asked,
+    )
+}
+
 #[test]
-fn puts_the_card(rt: HostRuntime) -> Result<(), Fail> {
+fn answers_by_words_bytes_and_devices(rt: HostRuntime) -> Result<(), Fail> {
+    for (number, case) in CASES.iter().enumerate() {
+        assert!(rt; is_as_said(rt.alloc(), *case)?, "case {number}");
+    }
+    Ok(())
+}
+
+/// The statuses of an `init` whose disk fails after so many calls, and of one on what a crash leaves of it, or 255
+/// where that one leaves no member.
+fn crashed(alloc: Global, honest: usize, image: u8) -> Result<(u8, u8), Fail> {
+    let calls: [u32; 10] = [1, 2, 3, 4, 5, 6, 7, 8, 9, 10];
+    let failing = calls.get(honest..).unwrap_or(&[]);
+    let mut first = run_over(alloc, "init", MemDisk::new(alloc, failing)?, HONEST)?;
+    if image <= 2 {
+        first.disk.crash(image);
+    }
+    let left = disk_with(alloc, first.disk.bytes(), &[])?;
+    let second = run_over(alloc, "init", left, HONEST)?;
+    let status = if second.disk.bytes() == MADE {
+        second.status
+    } else {
+        255
+    };
+    Ok((first.status, status))
+}
+
+#[test]
+fn an_init_makes_ten_calls_of_the_disk(rt: HostRuntime) -> Result<(), Fail> {
+    // calls that succeed, the image that a crash leaves (no pending write, all, all inverted), and the statuses
+    let cases = [
+        (0, 1, 4, 0),
+        (5, 1, 4, 0),
+        (8, 2, 4, 0),
+        (9, 0, 4, 0),
+        (9, 1, 4, 3),
+        (9, 2, 4, 0),
+        (10, 0, 0, 3),
+    ];
+    for (honest, image, status, after) in cases {
+        assert_eq!(rt;
+            crashed(rt.alloc(), honest, image)?,
+            (status, after),
+            "image {image} after {honest} calls"
+        );
+    }
+    Ok(())
+}
+
+/// The bytes of the file of a name, or none.
+fn file_of(alloc: Global, post: &mut MemPost, name: &str) -> Result<Bytes, Fail> {
+    match post.read(name, 2000)? {
+        Some(bytes) => Ok(bytes),
+        None => Ok(Bytes::copy_of(alloc, b"")?),
+    }
+}
+
+#[test]
+fn puts_the_card_alone(rt: HostRuntime) -> Result<(), Fail> {
     let alloc = rt.alloc();
-    let made = made_bytes(0);
-    let want = format!(in alloc; "card {CARD_ID}\n")?;
     let name = format!(in alloc; "{CARD_ID}.card")?;
+    let disk = disk_with(alloc, MADE, &[])?;
+    let mut seen = run_over(alloc, "card", disk, HONEST)?;
+    assert_eq!(rt; seen.post.list()?.as_slice().len(), 1);
+    assert_eq!(rt; seen.post.puts().len(), 1);
+    assert_eq!(rt; file_of(alloc, &mut seen.post, name.as_str())?.len(), 1249);
+    Ok(())
+}
+
+/// A set whose words never give a usable key. It stands for the rare words of the others that give none.
+struct Keyless;
+
+impl Kem for Keyless {
+    ghost SET = { 2 };
+
+    ghost PUBLIC_LEN = { 33 };
+
+    ghost SECRET_LEN = { 95 };
+
+    ghost CIPHER_LEN = { 58 };
+
+    const SET: u8 = 2;
+
+    const PUBLIC_LEN: usize = 33;
+
+    const SECRET_LEN: usize = 95;
+
+    const CIPHER_LEN: usize = 58;
+
+    type Pair = Infallible;
+
+    ghost made = { λ words. None };
+
+    ghost pair_words = { λ words. 0 };
+
+    ghost is_secret = { λ secret. false };
+
+    ghost public_in = { λ secret. secret };
+
+    ghost is_public = { λ public. false };
+
+    ghost encapsulated = { λ public words. None };
+
+    ghost cipher_words = { 0 };
+
+    ghost decapsulated = { λ secret cipher. None };
+
+    ghost secret_key = { λ pair. [] };
+
+    ghost has_set_lengths = { inr (refl, refl, refl, refl) };
+
+    ghost pairs_are_tested = { λ pair. elim pair [ ] };
+
+    ghost made_is_tested = { λ words secret is. ap is_some is };
+
+    ghost public_is_public = { λ secret is. is };
+
+    ghost decapsulates = { λ secret words e is sealed.
+        ap (λ (o : Option Encapsulated). if is_some o then Some e.key else None) sealed };
+
+    ghost secrets_have_length = { λ secret is. ap (λ (b : Bool). if b then 95 else length secret) is };
+
+    ghost publics_have_length = { λ public is. ap (λ (b : Bool). if b then 33 else length public) is };
+
+    ghost encapsulates = { λ public words is. is };
+
+    ghost ciphers_have_length = { λ public words e is. (
+      ap (λ (o : Option Encapsulated). if is_some o then 58 else length e.cipher) is,
+      ap (λ (o : Option Encapsulated). if is_some o then 32 else length e.key) is,
+    ) };
+
+    fn make<W: Words>(_alloc: Global, _words: &mut W) -> Result<Infallible, KemRefusal> {
+        Err(KemRefusal::NoUsableKey)
+    }
+
+    fn pair_from_secret(_alloc: Global, _secret: &[u8]) -> Result<Option<Infallible>, Memory> {
+        Ok(None)
+    }
+
+    fn secret(pair: &Infallible, _into: &mut [u8]) {
+        match *pair {}
+    }
+
+    fn public(pair: &Infallible, _into: &mut [u8]) {
+        match *pair {}
+    }
+
+    fn public_ok(_public: &[u8]) -> bool {
+        false
+    }
+
+    fn encap<W: Words>(_public: &[u8], _words: &mut W, _cipher: &mut [u8]) -> [u8; 32] {
+        unreachable!()
+    }
+
+    fn decap(pair: &Infallible, _cipher: &[u8]) -> Option<[u8; 32]> {
+        match *pair {}
+    }
+}
+
+/// The record of a member of this set, without inviter.
+const KEYLESS: &[u8] =
+    b"DCGKAJ1\n\x01\0\0\0\x43\x01\x02\x0a\0\0\0\0\0\0\0\0\0\0\0\0\0\0\0\0\0\0\0\0\0\0\0\0\0\0\0\0\0\0\0\0\x07\x07\x07\x07\x07\x07\x07\x07\x07\x07\x07\x07\x07\x07\x07\x07\x07\x07\x07\x07\x07\x07\x07\x07\x07\x07\x07\x07\x07\x07\x07\x07\0";
+
+/// A run of `init` over a set without keys: how it ended, what it wrote, and the bytes of the disk.
+fn run_keyless(alloc: Global, bytes: &[u8]) -> Result<(Ended, Bytes, Bytes), Fail> {
+    let words = words_of(alloc, "init")?;
+    let mut entropy = MemEntropy::new(alloc, &[[7; 32]], &[])?;
+    let mut out = MemSink::honest(alloc);
     let mut post = MemPost::honest(alloc);
-    let (disk, ended, line) = put_card(alloc, disk_with(alloc, &made)?, &mut post, &[])?;
-    assert_eq!(rt; ended, Ended::DONE);
-    assert_eq!(rt; line.as_slice(), want.as_bytes());
-    assert_eq!(rt; disk.bytes(), made.as_slice());
-    assert_eq!(rt; post.list()?.as_slice().len(), 1);
-    let first = file_of(alloc, &mut post, name.as_str())?;
-    assert_eq!(rt; first.len(), 1249);
-
-    // The same again, over the file that is there.
-    let (_, ended, line) = put_card(alloc, disk, &mut post, &[])?;
-    assert_eq!(rt; ended, Ended::DONE);
-    assert_eq!(rt; line.as_slice(), want.as_bytes());
-    assert_eq!(rt; post.list()?.as_slice().len(), 1);
-    let second = file_of(alloc, &mut post, name.as_str())?;
-    assert_eq!(rt; first.as_slice(), second.as_slice());
-    Ok(())
+    let disk = disk_with(alloc, bytes, &[])?;
+    let (disk, ended) = run_with::<Keyless, MemDisk, MemPost, MemEntropy, MemSink>(
+        alloc,
+        words.as_slice(),
+        disk,
+        &mut post,
+        &mut entropy,
+        &mut out,
+    );
+    Ok((
+        ended,
+        Bytes::copy_of(alloc, out.bytes())?,
+        Bytes::copy_of(alloc, disk.bytes())?,
+    ))
 }
 
 #[test]
-fn puts_no_card_without_a_member(rt: HostRuntime) -> Result<(), Fail> {
-    let disk = MemDisk::honest(rt.alloc());
-    let mut post = MemPost::honest(rt.alloc());
-    let (disk, ended, line) = put_card(rt.alloc(), disk, &mut post, &[])?;
-    assert_eq!(rt; ended.status, 3);
-    assert_eq!(rt; ended.refusal, Some(Refusal::NotMade));
-    assert_eq!(rt; line.as_slice(), b"refused not-made\n".as_slice());
-    assert_eq!(rt; disk.bytes(), b"".as_slice());
-    assert_eq!(rt; post.list()?.as_slice().len(), 0);
-    Ok(())
-}
-
-#[test]
-fn names_the_device_that_failed_for_a_card(rt: HostRuntime) -> Result<(), Fail> {
-    // the failing call of the mail folder and that of the output, the status, and the files left
-    let cases = [(1, 9, 5, 0), (9, 1, 7, 1)];
-    for (folder, output, status, left) in cases {
-        let disk = disk_with(rt.alloc(), &made_bytes(0))?;
-        let mut post = MemPost::new(rt.alloc(), &[folder])?;
-        let (disk, ended, line) = put_card(rt.alloc(), disk, &mut post, &[output])?;
+fn says_that_there_is_no_usable_key(rt: HostRuntime) -> Result<(), Fail> {
+    let alloc = rt.alloc();
+    let member = Identity::<Keyless>::make(alloc, MemberId(Digest([0; 32])), &[7; 32]);
+    assert!(rt; matches!(member, Err(KemRefusal::NoUsableKey)));
+    let cases: [(&[u8], u8, Refusal, &str); 2] = [
+        (EMPTY, 3, Refusal::NoUsableKey, "refused no-usable-key\n"),
+        (KEYLESS, 8, Refusal::NotJournal(9), "not a journal 9\n"),
+    ];
+    for (bytes, status, refusal, want) in cases {
+        let (ended, line, left) = run_keyless(alloc, bytes)?;
         assert_eq!(rt; ended.status, status);
-        assert_eq!(rt; ended.refusal, None);
-        assert_eq!(rt; line.as_slice(), b"".as_slice());
-        assert_eq!(rt; disk.bytes(), made_bytes(0).as_slice());
-        assert_eq!(rt; post.list()?.as_slice().len(), left);
+        assert_eq!(rt; ended.refusal, Some(refusal));
+        assert_eq!(rt; line.as_slice(), want.as_bytes());
+        assert_eq!(rt; left.as_slice(), bytes);
     }
     Ok(())
 }

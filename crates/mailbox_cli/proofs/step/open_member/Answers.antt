@@ -11,9 +11,9 @@ returns-then-count-gt1-clause-not_journal g c told place is =
     let journal = c.in_ok-journal.journal in
     let there = c.in-Ok.ensures.member told in
     let same : c.place-place.result ≡ place = cc in
-    let at = ap (λ (ps : List ℕ). slice_get ps 1) (sym (places-entries content journal) ∙ sym c.in-Ok.ensures.places) ∙ c.place-place.ensures in
+    let at = ap (λ (ps : List ℕ). slice_get ps 1) (sym (places-entries journal) ∙ sym c.in-Ok.ensures.places) ∙ c.place-place.ensures in
     subst (λ (p : ℕ). steps_of g.K.Kem (content c.args.disk) ≡ Err p) same
-    (second_there g.K.Kem (content c.args.disk) there.0 c.in-Ok.member (entries content journal) c.place-place.result (c.in_ok-journal.ensures.records told) there.1 at there.2)
+    (second_there g.K.Kem (content c.args.disk) there.0 c.in-Ok.member (entries journal) c.place-place.result (c.in_ok-journal.ensures.records told) there.1 at there.2)
 
 pub returns-in-Err-clause-not_journal : goal.returns-in-Err-clause-not_journal
 returns-in-Err-clause-not_journal g c told place is =
@@ -21,20 +21,20 @@ returns-in-Err-clause-not_journal g c told place is =
     let journal = c.in_ok-journal.journal in
     let fault = c.in-Err.is ∙ ap Err is in
     let other = c.read_member.ensures.no_member told place fault in
-    let at = ap (λ (ps : List ℕ). slice_get ps 0) (sym (places-entries content journal)) ∙ c.read_member.ensures.place place fault in
-    first_other g.K.Kem (content c.args.disk) other.0 (entries content journal) place (c.in_ok-journal.ensures.records told) other.1 at other.2
+    let at = ap (λ (ps : List ℕ). slice_get ps 0) (sym (places-entries journal)) ∙ c.read_member.ensures.place place fault in
+    first_other g.K.Kem (content c.args.disk) other.0 (entries journal) place (c.in_ok-journal.ensures.records told) other.1 at other.2
 
 pub returns-else-count-gt1-clause-steps : goal.returns-else-count-gt1-clause-steps
 returns-else-count-gt1-clause-steps g c told =
     let content = g.D.Disk.content in
     let journal = c.in_ok-journal.journal in
     let there = c.in-Ok.ensures.member told in
-    let few : length (entries content journal) ≤ 1 = omega (
+    let few : length (entries journal) ≤ 1 = omega (
       arith,
       c.if-count-gt1.false,
       c.count-in-Ok.ensures.count,
       ap length c.in-Ok.ensures.places,
-      ap length (places-entries content journal),
-      length-map (entries content journal) (λ entry. entry.place),
+      ap length (places-entries journal),
+      length-map (entries journal) (λ entry. entry.place),
     ) in
-    only_member g.K.Kem (content c.args.disk) there.0 c.in-Ok.member (entries content journal) (c.in_ok-journal.ensures.records told) there.1 few there.2
+    only_member g.K.Kem (content c.args.disk) there.0 c.in-Ok.member (entries journal) (c.in_ok-journal.ensures.records told) there.1 few there.2
