@@ -1,5 +1,5 @@
 ghost use Rattle.std.specs.Prelude.{◌≡◌, ◌⊎◌, ◌≤◌, ℕ, List, [], None, length};
-ghost use Rattle.std.specs.Prelude.{IfOk, OnOk, IsTrue, IsSomeAnd, MatchResult, Ok, Err, Some};
+ghost use Rattle.std.specs.Prelude.{IfOk, OnOk, IsTrue, IsSome, IsSomeAnd, MatchResult, Ok, Err, Some};
 ghost use Rattle.group_fields.specs.Cause.{HasCause};
 ghost use Rattle.group_fields.specs.Counts.{IsRaised};
 ghost use Rattle.system_calls.specs.Errors.{kind_of};
@@ -20,7 +20,8 @@ use system_calls::{CallError, FileCalls};
 /// machine gives; what it does to the files that its calls tell of is said of each method.
 ///
 /// The first call that finds or makes the file opens it and takes the system's exclusive lock, which it keeps. A file
-/// that isn't there is empty, and stays away until the first write makes it.
+/// that isn't there is empty, and stays away until the first write makes it: that write fails where somebody else made the
+/// file since the last look.
 #[derive(Drop)]
 pub struct FileDisk<C: FileCalls> {
     file: LockedFile<C>,
@@ -173,6 +174,8 @@ impl<C: FileCalls> Disk for FileDisk<C> {
             ≡ bytes_of (stored ⟦<C as FileCalls>⟧ self.old)) ⊎ HoldsLock ⟦<C as FileCalls>⟧ (file_of self.new) }
         ensures others { C.told → MayNameElsewhere (path_of self.old) (C.file_at (calls_of self.old))
             (C.file_at (calls_of self.new)) }
+        ensures untouched { C.told → (file_of self.old).file ≡ None → IsSome (stored ⟦<C as FileCalls>⟧ self.old)
+            → stored ⟦<C as FileCalls>⟧ self.new ≡ stored ⟦<C as FileCalls>⟧ self.old }
         ensures locked { C.told → OnOk result (HoldsLock ⟦<C as FileCalls>⟧ (file_of self.new)) }
         ensures plain { C.told → OnOk result (IsPlain (stored ⟦<C as FileCalls>⟧ self.old)) }
         ensures path { path_of self.new ≡ path_of self.old }

@@ -122,6 +122,9 @@ impl<C: FileCalls> LockedFile<C> {
         ensures opened { C.told → OnOk result (IsSome self.new.file) }
         ensures bytes { C.told → bytes_of (stored_in ⟦<C as FileCalls>⟧ self.new)
             ≡ bytes_of (stored_in ⟦<C as FileCalls>⟧ self.old) }
+        ensures missing { C.told → OnOk result (stored_in ⟦<C as FileCalls>⟧ self.old ≡ None) }
+        ensures untouched { C.told → IsSome (stored_in ⟦<C as FileCalls>⟧ self.old)
+            → stored_in ⟦<C as FileCalls>⟧ self.new ≡ stored_in ⟦<C as FileCalls>⟧ self.old }
         ensures others { C.told → MayNameElsewhere self.old.path (C.file_at self.old.calls) (C.file_at self.new.calls) }
         ensures path { self.new.path ≡ self.old.path }
         ensures failures { CountsFailure (C.failures self.old.calls) (C.failures self.new.calls) result }
@@ -151,7 +154,8 @@ impl<C: FileCalls> LockedFile<C> {
         Ok(())
     }
 
-    /// Puts bytes at a place. A file that is missing is made.
+    /// Puts bytes at a place. Where no call before it opened the file it is made: one that is there was made by somebody
+    /// else since the last look, and is left alone.
     pub(crate) fn write(&mut self, at: u64, bytes: &[u8]) -> Result<(), CallError>
         requires { C.told → IsReady ⟦<C as FileCalls>⟧ self.old }
         ensures ready { C.told → IsReady ⟦<C as FileCalls>⟧ self.new }
@@ -162,12 +166,13 @@ impl<C: FileCalls> LockedFile<C> {
         ensures guarded { C.told → (bytes_of (stored_in ⟦<C as FileCalls>⟧ self.new)
             ≡ bytes_of (stored_in ⟦<C as FileCalls>⟧ self.old)) ⊎ HoldsLock ⟦<C as FileCalls>⟧ self.new }
         ensures others { C.told → MayNameElsewhere self.old.path (C.file_at self.old.calls) (C.file_at self.new.calls) }
+        ensures untouched { C.told → self.old.file ≡ None → IsSome (stored_in ⟦<C as FileCalls>⟧ self.old)
+            → stored_in ⟦<C as FileCalls>⟧ self.new ≡ stored_in ⟦<C as FileCalls>⟧ self.old }
         ensures locked { C.told → OnOk result (HoldsLock ⟦<C as FileCalls>⟧ self.new) }
         ensures plain { C.told → OnOk result (IsPlain (stored_in ⟦<C as FileCalls>⟧ self.old)) }
         ensures path { self.new.path ≡ self.old.path }
         ensures failures { CountsFailure (C.failures self.old.calls) (C.failures self.new.calls) result }
     {
-        self.open()?;
         if self.file.is_none() {
             self.make()?;
         }

@@ -172,8 +172,8 @@ fn stopped(alloc: Global, call: u64, error: CallError) -> Result<(u32, Option<Er
 
 #[test]
 fn no_failure_of_a_call_is_swallowed(rt: HostRuntime) -> Result<(), Fail> {
-    // len: open; write: open, make, lock, sync the name, write; sync; write; len; read: twice, to the end
-    let steps_of_calls = [0, 1, 1, 1, 1, 1, 2, 3, 4, 5, 5];
+    // len: open; write: make, lock, sync the name, write; sync; write; len; read: twice, to the end
+    let steps_of_calls = [0, 1, 1, 1, 1, 2, 3, 4, 5, 5];
     let full = CallError::Failed(ErrorKind::StorageFull);
     for (before, step) in steps_of_calls.iter().enumerate() {
         let call = before as u64 + 1;
@@ -184,10 +184,10 @@ fn no_failure_of_a_call_is_swallowed(rt: HostRuntime) -> Result<(), Fail> {
             "call {call}"
         );
     }
-    assert_eq!(rt; stopped(rt.alloc(), 12, full)?, (6, None));
-    let memory = stopped(rt.alloc(), 6, CallError::Memory)?;
+    assert_eq!(rt; stopped(rt.alloc(), 11, full)?, (6, None));
+    let memory = stopped(rt.alloc(), 5, CallError::Memory)?;
     assert_eq!(rt; memory, (1, Some(ErrorKind::OutOfMemory)));
-    let taken = stopped(rt.alloc(), 3, CallError::Taken)?;
+    let taken = stopped(rt.alloc(), 2, CallError::Taken)?;
     assert_eq!(rt; taken, (1, Some(ErrorKind::AlreadyExists)));
     Ok(())
 }
@@ -195,7 +195,7 @@ fn no_failure_of_a_call_is_swallowed(rt: HostRuntime) -> Result<(), Fail> {
 /// The file after the steps, where a read or a write moves one byte, and some of them are interrupted.
 fn stepped(alloc: Global) -> Result<(u32, Option<StoredFile>), Memory> {
     let error = CallError::Interrupted;
-    let failing = [6, 8, 9, 12, 14].map(|call| Failing { call, error });
+    let failing = [5, 7, 8, 11, 13].map(|call| Failing { call, error });
     let mut disk = disk_over(MemFiles::new(alloc, &failing, 1)?, alloc, PATH)?;
     let done = steps(&mut disk);
     Ok((done, disk.calls().file(PATH)?))
@@ -230,6 +230,15 @@ fn filled(rt: &HostRuntime, path: &str) -> Result<Option<ErrorKind>, Fail> {
     failure(rt, path)
 }
 
+/// Why a disk that found no file can't write one that another disk made since.
+fn late(rt: &HostRuntime, path: &str) -> Result<Option<ErrorKind>, Fail> {
+    let mut disk = disk_over(RealFiles::new(rt.clone()?), rt.alloc(), path)?;
+    disk.len()?;
+    filled(rt, path)?;
+    let _ = disk.write_at(0, b"late");
+    Ok(disk.reason())
+}
+
 /// Why a disk over the path can't tell its length.
 fn failure(rt: &HostRuntime, path: &str) -> Result<Option<ErrorKind>, Fail> {
     let mut disk = disk_over(RealFiles::new(rt.clone()?), rt.alloc(), path)?;
@@ -252,6 +261,9 @@ fn file_disk_reads_and_writes(rt: HostRuntime) -> Result<(), Fail> {
     let _ = fs::remove_dir_all(&rt, FOLDER);
     fs::create_dir(&rt, FOLDER)?;
     assert!(rt; !makes_a_file(&rt, PATH)?);
+    assert_eq!(rt; late(&rt, PATH)?, Some(ErrorKind::AlreadyExists));
+    assert_eq!(rt; read_at(&rt, PATH, 0)?, (6, *b"abXpqr..."));
+    fs::remove_file(&rt, PATH)?;
     assert_eq!(rt; filled(&rt, PATH)?, Some(ErrorKind::WouldBlock));
     assert_eq!(rt; mode_of(&rt, PATH)?, 0o100600);
     assert_eq!(rt; read_at(&rt, PATH, 4)?, (2, *b"qr......."));

@@ -76,10 +76,10 @@ fn public_of(pair: &TestedPair<37>) -> [u8; 33] {
     public
 }
 
-/// The secret key and the public key of the pair that words give. None where they give none.
-fn keys_of<W: Words>(alloc: Global, words: &mut W) -> Result<Option<([u8; 95], [u8; 33])>, Fail> {
+/// The pair that words give. None where they give none.
+fn pair_of<W: Words>(alloc: Global, words: &mut W) -> Result<Option<TestedPair<37>>, Fail> {
     match Drill37::make(alloc, words) {
-        Ok(pair) => Ok(Some((secret_of(&pair), public_of(&pair)))),
+        Ok(pair) => Ok(Some(pair)),
         Err(KemRefusal::NoUsableKey) => Ok(None),
         Err(KemRefusal::Memory) => Err("memory was wanting".into()),
     }
@@ -107,12 +107,13 @@ fn pairs_of_words(rt: HostRuntime) -> Result<(), Fail> {
         (0, 16, false),
         (15, 16, false),
     ] {
-        match keys_of(rt.alloc(), &mut ListWords::new(&draws(bad_g, bad_f)))? {
+        match pair_of(rt.alloc(), &mut ListWords::new(&draws(bad_g, bad_f)))? {
             None => assert!(rt; !there, "{bad_g} and {bad_f}"),
-            Some((secret, public)) => {
+            Some(pair) => {
+                let secret = secret_of(&pair);
                 assert!(rt; there, "{bad_g} and {bad_f}");
                 assert!(rt; are(rt.alloc(), &secret, LISTED)?);
-                assert_eq!(rt; public.as_slice(), &secret[20..53]);
+                assert_eq!(rt; public_of(&pair).as_slice(), &secret[20..53]);
             }
         }
     }
