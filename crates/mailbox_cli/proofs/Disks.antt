@@ -6,7 +6,7 @@ use Rattle.group_fields.specs.declared.counts.Counts.{Counts}
 use Rattle.disk_trait.specs.Moments.{OnlyReads, Throughout, only_reads_none, only_reads_on, throughout_none, throughout_on, throughout_weaker}
 use Rattle.disk_trait.specs.declared.disk.Disk.{Ghosts as DiskGhosts}
 use Rattle.kem_trait.specs.declared.kem.Kem.{Ghosts as KemGhosts}
-use Rattle.mailbox_cli.specs.Call.{Counted, IsAmong, LeavesSteps}
+use Rattle.mailbox_cli.specs.Call.{IsAmong, LeavesSteps}
 use Rattle.mailbox_cli.specs.Parts.{DiskDid, DiskStops, IsSettled}
 use Rattle.mailbox_cli.specs.Steps.{Step, steps_of}
 use Rattle.mailbox_cli.specs.Story.{Event, opens, plans, plans_in, steps_after, is_opening}
@@ -35,11 +35,11 @@ module _ {K L D : Type 0} (kem : KemGhosts K L) (disk : DiskGhosts D) (laws : La
     bytes = λ nothing. only_reads_none disk d (λ image here. laws.only d image told here);
   }
 
-  pub disk_stays : (rest : List Event) (read : Result (List Step) ℕ) (d : D) → steps_of kem (disk.content d) ≡ read
-      → DiskStops kem disk rest read d d
-  disk_stays rest read d reads = record {
-    steps = steps_same (Counted (disk.counts d) (disk.counts d)) rest read (steps_of kem (disk.content d)) reads;
-    images = λ settled image here. steps_same (Counted (disk.counts d) (disk.counts d)) rest read (steps_of kem image)
+  pub disk_stays : (fault : Type 0) (rest : List Event) (read : Result (List Step) ℕ) (d : D) → steps_of kem (disk.content d) ≡ read
+      → DiskStops kem disk fault rest read d d
+  disk_stays fault rest read d reads = record {
+    steps = steps_same fault rest read (steps_of kem (disk.content d)) reads;
+    images = λ settled image here. steps_same fault rest read (steps_of kem image)
         (ap (steps_of kem) (settled image here) ∙ reads);
     moments = throughout_none disk d (λ image. disk.image d image ⊎ IsAmong read (take 1 rest) (steps_of kem image))
         (λ image here. inl (laws.only d image told here));
@@ -59,9 +59,9 @@ module _ {K L D : Type 0} (kem : KemGhosts K L) (disk : DiskGhosts D) (laws : La
   }
 
   -- it was not
-  pub disk_unopened : (later : List Event) (read : Result (List Step) ℕ) (first last : D) → steps_of kem (disk.content first) ≡ read
-      → OnlyReads disk first last → DiskStops kem disk (opens ∷ later) read first last
-  disk_unopened later read first last reads only = record {
+  pub disk_unopened : (fault : Type 0) (later : List Event) (read : Result (List Step) ℕ) (first last : D)
+      → steps_of kem (disk.content first) ≡ read → OnlyReads disk first last → DiskStops kem disk fault (opens ∷ later) read first last
+  disk_unopened fault later read first last reads only = record {
     steps = ap (steps_of kem) only.stays ∙ reads;
     images = λ settled image here. ap (steps_of kem) (settled image (only.images image here)) ∙ reads;
     moments = throughout_weaker disk first last (disk.image first)

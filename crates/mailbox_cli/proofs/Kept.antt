@@ -6,8 +6,8 @@ use Rattle.disk_trait.specs.Disk.{LeavesOnly}
 use Rattle.disk_trait.specs.Moments.{OnlyReads, Throughout}
 use Rattle.kem_trait.specs.declared.kem.Kem.{Ghosts as KemGhosts}
 use Rattle.mail_trait.specs.Post.{Files}
-use Rattle.mailbox_cli.specs.Call.{Call, Carries, Counted, Devices, IsAmong, IsOpened, LeavesSteps}
-use Rattle.mailbox_cli.specs.Runs.{Keeps, Runs, begins, returns, crashes, Kept}
+use Rattle.mailbox_cli.specs.Call.{Call, Carries, Devices, DiskFault, IsAmong, IsOpened, LeavesSteps}
+use Rattle.mailbox_cli.specs.Runs.{Keeps, Runs, begins, returns, restarts, crashes, Kept}
 use Rattle.mailbox_cli.specs.Steps.{Step, steps_of}
 use Rattle.mailbox_cli.specs.Story.{Event, opens, draws, awaits, plans, puts, prints, ends, plans_in, steps_after, is_opening, story, story_of, read_story, with_step}
 use Rattle.mailbox_cli.specs.Words.{command_of}
@@ -93,10 +93,10 @@ module _ {K L D P E S : Type 0} (kem : KemGhosts K L) (on : Devices D P E S) (la
 
     pub opened_keeps : list_any is_opening carries.events ≡ true → (image : List ℕ) → on.disk.image call.after.disk image
         → (kept : List Step) × Keeps true carries.events carries.rest kept × (steps_of kem image ≡ okay (steps ++ kept))
-    opened_keeps was image here = left_taken (Counted (on.disk.counts call.before.disk) (on.disk.counts call.after.disk)) steps
+    opened_keeps was image here = left_taken (DiskFault kem on call) steps
         carries.events carries.rest (steps_of kem image)
-        (subst (λ (r : Result (List Step) ℕ). LeavesSteps (Counted (on.disk.counts call.before.disk) (on.disk.counts call.after.disk))
-        carries.rest (steps_after r carries.events) (steps_of kem image)) read_is (carries.images told (opened_is was) image here))
+        (subst (λ (r : Result (List Step) ℕ). LeavesSteps (DiskFault kem on call) carries.rest
+        (steps_after r carries.events) (steps_of kem image)) read_is (carries.images told (opened_is was) image here))
 
     pub among_keeps : (image : List ℕ) → IsAmong carries.read (carries.events ++ take 1 carries.rest) (steps_of kem image)
         → (kept : List Step) × Keeps false carries.events carries.rest kept × (steps_of kem image ≡ okay (steps ++ kept))
@@ -170,6 +170,10 @@ module _ {K L D P E S : Type 0} (kem : KemGhosts K L) (on : Devices D P E S) (la
   all_kept start last (returns {disk} runs call is carries) steps settled reads image here =
       return_keeps start disk runs call is carries steps (all_kept start disk runs steps settled reads) image here
       (list_any is_opening carries.events) refl
+  all_kept start last (restarts {disk} runs call is carries bytes left next shows only) steps settled reads image here =
+      let kept = return_keeps start disk runs call is carries steps (all_kept start disk runs steps settled reads) bytes left
+      (list_any is_opening carries.events) refl in
+      (kept.0, kept.1, ap (steps_of kem) (only image here) ∙ kept.2)
   all_kept start last (crashes {disk} runs call is carries bytes since next shows only) steps settled reads image here =
       crash_keeps start disk runs call is carries steps (all_kept start disk runs steps settled reads) bytes since next shows only image here
       ((carries.moments told).each bytes since)

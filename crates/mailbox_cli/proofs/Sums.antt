@@ -104,7 +104,8 @@ post_same [] files files' list list' same same' = (same, same')
 post_same (puts name bytes ∷ rest) files files' list list' same same' = inl (same, same')
 post_same (event ∷ rest) files files' list list' same same' = (same, same')
 
-pub lines_same : (rest : List Event) (written written' : List ℕ) → written' ≡ written → LeavesLines rest written written'
-lines_same [] written written' same = same
-lines_same (prints text ∷ rest) written written' same = (0, same ∙ sym (append-nil written))
-lines_same (event ∷ rest) written written' same = same
+pub lines_same : (fault : Type 0) (rest : List Event) (written written' : List ℕ) → written' ≡ written
+    → LeavesLines fault rest written written'
+lines_same fault [] written written' same = same
+lines_same fault (prints text ∷ rest) written written' same = inl same
+lines_same fault (event ∷ rest) written written' same = same

@@ -12,9 +12,9 @@ use Rattle.kem_trait.specs.declared.kem.Kem.{Ghosts as KemGhosts}
 use Rattle.mail_trait.specs.Post.{Files, SameElsewhere, whole_put, failed_put}
 use Rattle.mail_trait.specs.Sink.{AppendsPrefix}
 use Rattle.mail_trait.specs.declared.put.Put.{Put}
-use Rattle.mailbox_cli.specs.Call.{Answers, Devices, Moment, IsUncounted, WantRose, of_disk, of_post, of_entropy, of_sink, HasCauses, Untouched, Counted, IsFault, LeavesAsked, LeavesEnd, LeavesPost, LeavesLines}
+use Rattle.mailbox_cli.specs.Call.{Answers, IsFaultOf, failed, wanted, Devices, Moment, IsUncounted, WantRose, of_disk, of_post, of_entropy, of_sink, HasCauses, Untouched, IsFault, LeavesAsked, LeavesEnd, LeavesPost, LeavesLines}
 use Rattle.mailbox_cli.specs.Lines.{is_quiet, refusal_line, status_of}
-use Rattle.mailbox_cli.specs.Parts.{IsFaultOf, failed, wanted, Says, whole, part, Refuses, IsSettled, DiskDid, DiskStops, Did, Stops, Tells}
+use Rattle.mailbox_cli.specs.Parts.{Says, whole, part, Refuses, IsSettled, DiskDid, DiskStops, Did, Stops, Tells}
 use Rattle.mailbox_cli.specs.Steps.{Step, steps_of}
 use Rattle.mailbox_cli.specs.Story.{Event, opens, draws, awaits, plans, puts, prints, ends, seeds_in, plans_in, puts_in, lines_in, steps_after, files_after, asked_after, is_acknowledged, asks_disk, asks_post, asks_source, asks_output, refuses}
 use Rattle.mailbox_cli.specs.declared.ended.Ended.{Ended}
@@ -37,10 +37,6 @@ want_of status before now ended other (wanted is raised) nine = raised
 pub fault_of : (status : ℕ) (before now : Counts) (ended : Ended) → IsFaultOf status before now ended → IsFault status ended
 fault_of status before now ended (failed is raised) = inl is
 fault_of status before now ended (wanted is raised) = inr is
-
-pub counted_of : (status : ℕ) (before now : Counts) (ended : Ended) → IsFaultOf status before now ended → Counted before now
-counted_of status before now ended (failed is raised) = inl raised
-counted_of status before now ended (wanted is raised) = inr raised
 
 -- the fault of a device is no other device's
 not_status : (status other : ℕ) (before now : Counts) (ended : Ended) → status ≢ other → other ≢ 9
@@ -326,9 +322,9 @@ module _ {D P E S : Type 0} (on : Devices D P E S) where
       stops_same rest asked causes ending = record {
         given = λ told. refl;
         asked = λ told. asked;
-        disk = λ told reads. disk_stays kem on.disk laws told rest read m.disk reads;
+        disk = λ told reads. disk_stays kem on.disk laws told _ rest read m.disk reads;
         posts = λ told. post_same rest (on.post.files m.post) (on.post.files m.post) (on.post.puts m.post) (on.post.puts m.post) refl refl;
-        lines = λ told. lines_same rest (on.sink.written m.out) (on.sink.written m.out) refl;
+        lines = λ told. lines_same _ rest (on.sink.written m.out) (on.sink.written m.out) refl;
         untouched = record { disk = λ is. refl; post = λ is. refl; entropy = λ is. refl; sink = λ is. refl };
         causes = causes;
         ending = ending;
@@ -354,7 +350,7 @@ module _ {D P E S : Type 0} (on : Devices D P E S) where
           (record {
             given = λ told. refl;
             asked = λ told. refl;
-            disk = λ told reads. disk_unopened kem on.disk laws told later read m.disk disk' reads (only told);
+            disk = λ told reads. disk_unopened kem on.disk laws told _ later read m.disk disk' reads (only told);
             posts = λ told. (refl, refl);
             lines = λ told. refl;
             untouched = record { disk = λ is. cc; post = λ is. refl; entropy = λ is. refl; sink = λ is. refl };
@@ -371,7 +367,7 @@ module _ {D P E S : Type 0} (on : Devices D P E S) where
           (record {
             given = given;
             asked = λ told. inl (asked told);
-            disk = λ told reads. disk_stays kem on.disk laws told (awaits ∷ []) read m.disk reads;
+            disk = λ told reads. disk_stays kem on.disk laws told _ (awaits ∷ []) read m.disk reads;
             posts = λ told. (refl, refl);
             lines = λ told. refl;
             untouched = record { disk = λ is. refl; post = λ is. refl; entropy = λ is. cc; sink = λ is. refl };
@@ -380,7 +376,8 @@ module _ {D P E S : Type 0} (on : Devices D P E S) where
           })
 
       pub fails_plan : (story : List (List ℕ) → List Event) (disk' : D) (step : Step) (later : List Event) → story [] ≡ plans step ∷ later
-          → (on.disk.told → steps_of kem (on.disk.content m.disk) ≡ read → DiskStops kem on.disk (plans step ∷ later) read m.disk disk')
+          → (on.disk.told → steps_of kem (on.disk.content m.disk) ≡ read
+          → DiskStops kem on.disk (IsFaultOf 4 (on.disk.counts m.disk) (on.disk.counts disk') ended) (plans step ∷ later) read m.disk disk')
           → IsFaultOf 4 (on.disk.counts m.disk) (on.disk.counts disk') ended → Tells kem on story read m (record m { disk = disk' }) ended
       fails_plan story disk' step later is stopped f = tells_now read m (record m { disk = disk' }) ended story (plans step ∷ later) is
           (record {
@@ -404,7 +401,7 @@ module _ {D P E S : Type 0} (on : Devices D P E S) where
           (record {
             given = λ told. refl;
             asked = λ told. refl;
-            disk = λ told reads. disk_stays kem on.disk laws told (puts name bytes ∷ later) read m.disk reads;
+            disk = λ told reads. disk_stays kem on.disk laws told _ (puts name bytes ∷ later) read m.disk reads;
             posts = λ told. ⊎_elim (λ seen. inr (others told, seen)) (λ none. inl (none.1, none.0)) (list told);
             lines = λ told. refl;
             untouched = record { disk = λ is. refl; post = λ is. cc; entropy = λ is. refl; sink = λ is. refl };
@@ -419,9 +416,9 @@ module _ {D P E S : Type 0} (on : Devices D P E S) where
           (record {
             given = λ told. refl;
             asked = λ told. refl;
-            disk = λ told reads. disk_stays kem on.disk laws told (prints text ∷ later) read m.disk reads;
+            disk = λ told reads. disk_stays kem on.disk laws told _ (prints text ∷ later) read m.disk reads;
             posts = λ told. (refl, refl);
-            lines = some;
+            lines = λ told. inr (f, some told);
             untouched = record { disk = λ is. refl; post = λ is. refl; entropy = λ is. refl; sink = λ is. cc };
             causes = causes_sink m (record m { out = out' }) ended f;
             ending = fault_of 7 _ _ ended f;

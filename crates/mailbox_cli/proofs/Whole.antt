@@ -10,9 +10,9 @@ use Rattle.mail_trait.specs.Post.{Files}
 use Rattle.mail_trait.specs.declared.put.Put.{Put}
 use Rattle.member_journal.specs.declared.fault.JournalFault.{JournalFault}
 use Rattle.member_journal.specs.declared.fault.JournalFault.TheVariants.{Disk, Memory, NotJournal}
-use Rattle.mailbox_cli.specs.Call.{Answers, Devices, Moment, Call, Carries, Counted, HasCauses, IsOpened, LeavesAsked, LeavesLines, LeavesPost, LeavesSteps, call_of}
+use Rattle.mailbox_cli.specs.Call.{Answers, Devices, Moment, Call, Carries, IsFaultOf, failed, HasCauses, IsOpened, LeavesAsked, LeavesLines, LeavesPost, LeavesSteps, call_of}
 use Rattle.mailbox_cli.specs.Opening.{EndsOpening}
-use Rattle.mailbox_cli.specs.Parts.{DiskDid, DiskStops, Did, Stops, Tells, IsSettled, Refuses, failed}
+use Rattle.mailbox_cli.specs.Parts.{DiskDid, DiskStops, Did, Stops, Tells, IsSettled, Refuses}
 use Rattle.mailbox_cli.specs.Steps.{Step, steps_of}
 use Rattle.mailbox_cli.specs.Story.{Event, opens, seeds_in, plans_in, puts_in, lines_in, steps_after, files_after, asked_after, is_opening, story, story_of, read_story, command_story, refuses}
 use Rattle.mailbox_cli.specs.Words.{command_of}
@@ -29,14 +29,17 @@ module _ {K L D P E S : Type 0} (kem : KemGhosts K L) (on : Devices D P E S) (la
     did_disk : on.disk.told → DiskDid kem on.disk tells.events read before.disk tells.mid.disk
     did_disk told = tells.did.disk told (sym (reads told))
 
-    stops_disk : on.disk.told → DiskStops kem on.disk tells.rest (steps_after read tells.events) tells.mid.disk after.disk
+    stops_disk : on.disk.told → DiskStops kem on.disk (IsFaultOf 4 (on.disk.counts tells.mid.disk) (on.disk.counts after.disk) ended)
+        tells.rest (steps_after read tells.events) tells.mid.disk after.disk
     stops_disk told = tells.stops.disk told (did_disk told).steps
 
     left : (now : Result (List Step) ℕ)
-        → LeavesSteps (Counted (on.disk.counts tells.mid.disk) (on.disk.counts after.disk)) tells.rest (steps_after read tells.events) now
-        → LeavesSteps (Counted (on.disk.counts before.disk) (on.disk.counts after.disk)) tells.rest (steps_after read tells.events) now
-    left now leaves =
-        subst (λ (c : Counts). LeavesSteps (Counted c (on.disk.counts after.disk)) tells.rest (steps_after read tells.events) now)
+        → LeavesSteps (IsFaultOf 4 (on.disk.counts tells.mid.disk) (on.disk.counts after.disk) ended) tells.rest
+        (steps_after read tells.events) now
+        → LeavesSteps (IsFaultOf 4 (on.disk.counts before.disk) (on.disk.counts after.disk) ended) tells.rest
+        (steps_after read tells.events) now
+    left now leaves = subst
+        (λ (c : Counts). LeavesSteps (IsFaultOf 4 c (on.disk.counts after.disk) ended) tells.rest (steps_after read tells.events) now)
         tells.did.counts.disk leaves
 
     opened : (r : Result (List Step) ℕ) → IsOpened r tells.events
@@ -45,10 +48,10 @@ module _ {K L D P E S : Type 0} (kem : KemGhosts K L) (on : Devices D P E S) (la
     opened (Ok steps) was settled = settled (inl was) steps refl
     opened (Err place) was settled = absurd was
 
-    quiet : (plans_in (take 1 tells.rest) ≡ []) ⊎ ¬ (Counted (on.disk.counts before.disk) (on.disk.counts after.disk))
-        → (plans_in (take 1 tells.rest) ≡ []) ⊎ ¬ (Counted (on.disk.counts tells.mid.disk) (on.disk.counts after.disk))
+    quiet : (plans_in (take 1 tells.rest) ≡ []) ⊎ ¬ (IsFaultOf 4 (on.disk.counts before.disk) (on.disk.counts after.disk) ended)
+        → (plans_in (take 1 tells.rest) ≡ []) ⊎ ¬ (IsFaultOf 4 (on.disk.counts tells.mid.disk) (on.disk.counts after.disk) ended)
     quiet (inl none) = inl none
-    quiet (inr same) = inr (λ counted. same (subst (λ (c : Counts). Counted c (on.disk.counts after.disk)) tells.did.counts.disk counted))
+    quiet (inr same) = inr (λ fault. same (subst (λ (c : Counts). IsFaultOf 4 c (on.disk.counts after.disk) ended) tells.did.counts.disk fault))
 
     pub carries_of : Carries kem on (call_of words before after ended)
     carries_of = record {
@@ -74,8 +77,11 @@ module _ {K L D P E S : Type 0} (kem : KemGhosts K L) (on : Devices D P E S) (la
           (on.post.puts after.post)) (tells.did.files told)
           (subst (λ (l : List Put). LeavesPost tells.rest (on.post.files tells.mid.post) l (on.post.files after.post)
           (on.post.puts after.post)) (tells.did.puts told) (tells.stops.posts told));
-      lines = λ told. subst (λ (l : List ℕ). LeavesLines tells.rest l (on.sink.written after.out)) (tells.did.lines told)
-          (tells.stops.lines told);
+      lines = λ told.
+          subst (λ (c : Counts). LeavesLines (IsFaultOf 7 c (on.sink.counts after.out) ended) tells.rest
+          (on.sink.written before.out ++ lines_in tells.events) (on.sink.written after.out)) tells.did.counts.sink
+          (subst (λ (l : List ℕ). LeavesLines (IsFaultOf 7 (on.sink.counts tells.mid.out) (on.sink.counts after.out) ended) tells.rest l
+          (on.sink.written after.out)) (tells.did.lines told) (tells.stops.lines told));
       untouched = untouched_on on before tells.mid after tells.events (take 1 tells.rest) tells.did.untouched tells.stops.untouched;
       ending = tells.stops.ending;
       wants = tells.wants;

@@ -4,7 +4,7 @@ use Rattle.std.proofs.lemmas.List.{length-take}
 use Rattle.std.proofs.lemmas.List.Folds.{list_any-append}
 use Rattle.std.specs.List.{list_any}
 use Rattle.kem_trait.specs.declared.kem.Kem.{Ghosts as KemGhosts}
-use Rattle.mailbox_cli.specs.Call.{Answers, Call, Carries, Counted, Devices, HasCauses, IsComplete, IsHonest, IsOpened, LeavesEnd, LeavesLines, LeavesSteps}
+use Rattle.mailbox_cli.specs.Call.{Answers, Call, Carries, Devices, HasCauses, IsComplete, IsHonest, IsOpened, DiskFault, OutputFault, LeavesEnd, LeavesLines, LeavesSteps}
 use Rattle.mailbox_cli.specs.Receipts.{with_steps, Reaches, IsWritten}
 use Rattle.mailbox_cli.specs.Steps.{Step, steps_of}
 use Rattle.mailbox_cli.specs.Story.{Event, opens, draws, awaits, plans, puts, prints, ends, story, seeds_in, plans_in, lines_in, steps_after, with_step, is_opening}
@@ -51,7 +51,7 @@ module _ {K L D P E S : Type 0} (kem : KemGhosts K L) (on : Devices D P E S) (ca
   pub done_lasts : (carries : Carries kem on call) → on.disk.told → call.ended.status ≡ 0 → IsOpened carries.read carries.events
       → (image : List ℕ) → on.disk.image call.after.disk image → steps_of kem image ≡ steps_after carries.read carries.events
   done_lasts carries told zero was image here =
-      subst (λ (rest : List Event). LeavesSteps (Counted (on.disk.counts call.before.disk) (on.disk.counts call.after.disk)) rest
+      subst (λ (rest : List Event). LeavesSteps (DiskFault kem on call) rest
       (steps_after carries.read carries.events) (steps_of kem image)) (done_end carries.rest carries.ending zero)
       (carries.images told was image here)
 
@@ -67,21 +67,22 @@ splits (x ∷ a) b (event ∷ c) d is =
     (λ shorter. inr (shorter.0, shorter.1, (λ i. sym same i ∷ shorter.2 i), shorter.3)) (splits a b c d tails)
 
 -- where a story stopped, at most the next line was written
-line_bound : (event : Event) (rest : List Event) (written written' : List ℕ) → LeavesLines (event ∷ rest) written written'
-    → length written' ≤ length written + length (lines_in (event ∷ []))
-line_bound (prints text) rest written written' some = omega (
+line_bound : (fault : Type 0) (event : Event) (rest : List Event) (written written' : List ℕ)
+    → LeavesLines fault (event ∷ rest) written written' → length written' ≤ length written + length (lines_in (event ∷ []))
+line_bound fault (prints text) rest written written' (inl same) = omega (arith, ap length same)
+line_bound fault (prints text) rest written written' (inr (cause, some)) = omega (
   arith,
   ap length some.1,
   length-append written (take some.0 text),
   length-take some.0 text,
   length-append text [],
 )
-line_bound opens rest written written' same = omega (arith, ap length same)
-line_bound (draws random) rest written written' same = omega (arith, ap length same)
-line_bound awaits rest written written' same = omega (arith, ap length same)
-line_bound (plans step) rest written written' same = omega (arith, ap length same)
-line_bound (puts name bytes) rest written written' same = omega (arith, ap length same)
-line_bound (ends status refusal) rest written written' same = omega (arith, ap length same)
+line_bound fault opens rest written written' same = omega (arith, ap length same)
+line_bound fault (draws random) rest written written' same = omega (arith, ap length same)
+line_bound fault awaits rest written written' same = omega (arith, ap length same)
+line_bound fault (plans step) rest written written' same = omega (arith, ap length same)
+line_bound fault (puts name bytes) rest written written' same = omega (arith, ap length same)
+line_bound fault (ends status refusal) rest written written' same = omega (arith, ap length same)
 
 some_length : (text : List ℕ) → text ≢ [] → 1 ≤ length text
 some_length [] some = absurd (some refl)
@@ -98,12 +99,12 @@ with_steps-more read [] step = refl
 with_steps-more read (first ∷ steps) step = with_steps-more (with_step first read) steps step
 
 -- what is left where a story stopped reaches all that happened
-left_reaches : (counted : Type 0) (rest : List Event) (read now : Result (List Step) ℕ) → LeavesSteps counted rest read now
+left_reaches : (fault : Type 0) (rest : List Event) (read now : Result (List Step) ℕ) → LeavesSteps fault rest read now
     → (now ≡ read) ⊎ ((step : Step) × (now ≡ with_step step read))
-left_reaches counted [] read now is = inl is
-left_reaches counted (plans step ∷ rest) read now (inl is) = inl is
-left_reaches counted (plans step ∷ rest) read now (inr more) = inr (step, more.1)
-left_reaches counted (event ∷ rest) read now is = inl is
+left_reaches fault [] read now is = inl is
+left_reaches fault (plans step ∷ rest) read now (inl is) = inl is
+left_reaches fault (plans step ∷ rest) read now (inr more) = inr (step, more.1)
+left_reaches fault (event ∷ rest) read now is = inl is
 
 opened_longer : (read : Result (List Step) ℕ) (front more : List Event) → IsOpened read front → IsOpened read (front ++ more)
 opened_longer (Ok steps) front more was =
@@ -115,9 +116,9 @@ module _ {K L D P E S : Type 0} (kem : KemGhosts K L) (on : Devices D P E S) (ca
   -- all events in front of the line happened
   happened : (more : List Event) × (carries.events ≡ front ++ more)
   happened = ⊎_elim (λ longer. longer) (λ shorter.
-      let bound = line_bound shorter.0 (shorter.1 ++ prints line.text ∷ line.later)
+      let bound = line_bound (OutputFault kem on call) shorter.0 (shorter.1 ++ prints line.text ∷ line.later)
       (on.sink.written call.before.out ++ lines_in carries.events) (on.sink.written call.after.out)
-      (subst (λ (rest : List Event). LeavesLines rest (on.sink.written call.before.out ++ lines_in carries.events)
+      (subst (λ (rest : List Event). LeavesLines (OutputFault kem on call) rest (on.sink.written call.before.out ++ lines_in carries.events)
       (on.sink.written call.after.out)) shorter.3 (carries.lines told')) in
       absurd (omega (
         arith,
@@ -148,5 +149,5 @@ module _ {K L D P E S : Type 0} (kem : KemGhosts K L) (on : Devices D P E S) (ca
       (λ more. (
         plans_in events.0 ++ more.0 ∷ [],
         more.1 ∙ ap (with_step more.0) split ∙ with_steps-more (steps_after carries.read front) (plans_in events.0) more.0,
-      )) (left_reaches (Counted (on.disk.counts call.before.disk) (on.disk.counts call.after.disk)) carries.rest
+      )) (left_reaches (DiskFault kem on call) carries.rest
       (steps_after carries.read carries.events) (steps_of kem image) (carries.images told opened image here))

@@ -55,6 +55,11 @@ call_of words before after ended = record { words = words; before = before; afte
 abbrev pub Answers : ℕ → Option Refusal → Ended → Type 0
 Answers status refusal ended = (ended.status ≡ status) × (ended.refusal ≡ refusal)
 
+-- the device of a status failed, or it wanted memory, and counted it
+pub data IsFaultOf (status : ℕ) (before now : Counts) (ended : Ended) : Type 0 where
+  failed : Answers status None ended → IsRaised before.faults now.faults → IsFaultOf status before now ended
+  wanted : Answers 9 None ended → IsRaised before.wants now.wants → IsFaultOf status before now ended
+
 -- no refusal, and this status or 9
 abbrev pub IsFault : ℕ → Ended → Type 0
 IsFault status ended = Answers status None ended ⊎ Answers 9 None ended
@@ -71,10 +76,10 @@ LeavesEnd (puts name bytes ∷ rest) ended = IsFault 5 ended
 LeavesEnd (prints text ∷ rest) ended = IsFault 7 ended
 LeavesEnd (ends status refusal ∷ rest) ended = (rest ≡ []) × Answers status refusal ended
 
--- What bytes read as where the story stopped: the next step may be there only where the disk counted a failure.
-abbrev pub LeavesSteps : Type 0 → List Event → Result (List Step) ℕ → Result (List Step) ℕ → Type 0
-LeavesSteps counted (plans step ∷ rest) read now = (now ≡ read) ⊎ (counted × (now ≡ with_step step read))
-LeavesSteps counted rest read now = now ≡ read
+-- What bytes read as where the story stopped: the next step may be there only where the disk failed.
+abbrev pub LeavesSteps : (fault : Type 0) → List Event → Result (List Step) ℕ → Result (List Step) ℕ → Type 0
+LeavesSteps fault (plans step ∷ rest) read now = (now ≡ read) ⊎ (fault × (now ≡ with_step step read))
+LeavesSteps fault rest read now = now ≡ read
 
 -- The files, and all puts. A put that left no trace is not on the list.
 abbrev pub LeavesPost : List Event → Files → List Put → Files → List Put → Type 0
@@ -83,9 +88,11 @@ LeavesPost (puts name bytes ∷ rest) files list files' list' =
     ⊎ (SameElsewhere name files files' × (list' ≡ list ++ failed_put name bytes ∷ []))
 LeavesPost rest files list files' list' = (files' ≡ files) × (list' ≡ list)
 
-abbrev pub LeavesLines : List Event → List ℕ → List ℕ → Type 0
-LeavesLines (prints text ∷ rest) written written' = AppendsPrefix text written written'
-LeavesLines rest written written' = written' ≡ written
+-- What was written: a part of the next line may be there only where the output failed.
+abbrev pub LeavesLines : (fault : Type 0) → List Event → List ℕ → List ℕ → Type 0
+LeavesLines fault (prints text ∷ rest) written written' =
+    (written' ≡ written) ⊎ (fault × AppendsPrefix text written written')
+LeavesLines fault rest written written' = written' ≡ written
 
 -- How often the source was asked: once more where random bytes are due, unless memory ran out before.
 abbrev pub LeavesAsked : List Event → Ended → ℕ → ℕ → Type 0
@@ -146,9 +153,13 @@ module _ {D P E S : Type 0} (on : Devices D P E S) (first last : Moment D P E S)
     pub sink : list_any asks_output events ≡ false → last.out ≡ first.out
 
 module _ {K L D P E S : Type 0} (kem : KemGhosts K L) (on : Devices D P E S) (call : Call D P E S) where
-  -- the disk counted a failure or a want of memory
-  abbrev pub DiskCounted : Type 0
-  DiskCounted = Counted (on.disk.counts call.before.disk) (on.disk.counts call.after.disk)
+  -- the answer is that the disk failed or wanted memory, and the disk counted it
+  abbrev pub DiskFault : Type 0
+  DiskFault = IsFaultOf 4 (on.disk.counts call.before.disk) (on.disk.counts call.after.disk) call.ended
+
+  -- the same of the output
+  abbrev pub OutputFault : Type 0
+  OutputFault = IsFaultOf 7 (on.sink.counts call.before.out) (on.sink.counts call.after.out) call.ended
 
   -- How far the story of the call was carried out: the events that happened, and those that were left. What is said of
   -- a device's content holds where that device tells it.
@@ -169,16 +180,16 @@ module _ {K L D P E S : Type 0} (kem : KemGhosts K L) (on : Devices D P E S) (ca
         (asked_after (seeds_in events) (on.entropy.asked call.before.entropy)) (on.entropy.asked call.after.entropy)
     -- what the disk reads as
     pub steps : on.disk.told
-        → LeavesSteps DiskCounted rest (steps_after read events) (steps_of kem (on.disk.content call.after.disk))
+        → LeavesSteps DiskFault rest (steps_after read events) (steps_of kem (on.disk.content call.after.disk))
     -- What a crash after the call leaves reads the same, where the journal was opened.
     pub images : on.disk.told → IsOpened read events → (image : List ℕ) → on.disk.image call.after.disk image
-        → LeavesSteps DiskCounted rest (steps_after read events) (steps_of kem image)
+        → LeavesSteps DiskFault rest (steps_after read events) (steps_of kem image)
     -- A crash at any moment of the call leaves what it might have left before, or the steps before with the first of
     -- the planned ones.
     pub moments : on.disk.told → Throughout on.disk call.before.disk call.after.disk
         (λ image. on.disk.image call.before.disk image ⊎ IsAmong read (events ++ take 1 rest) (steps_of kem image))
     -- Where no step was begun the bytes stay, and no image is new.
-    pub bytes : on.disk.told → plans_in events ≡ [] → (plans_in (take 1 rest) ≡ []) ⊎ ¬ DiskCounted
+    pub bytes : on.disk.told → plans_in events ≡ [] → (plans_in (take 1 rest) ≡ []) ⊎ ¬ DiskFault
         → OnlyReads on.disk call.before.disk call.after.disk
     -- the mail folder: the files, and each put in order
     pub posts : on.post.told → LeavesPost rest
@@ -186,7 +197,8 @@ module _ {K L D P E S : Type 0} (kem : KemGhosts K L) (on : Devices D P E S) (ca
         (on.post.files call.after.post) (on.post.puts call.after.post)
     -- the output
     pub lines : on.sink.told
-        → LeavesLines rest (on.sink.written call.before.out ++ lines_in events) (on.sink.written call.after.out)
+        → LeavesLines OutputFault rest (on.sink.written call.before.out ++ lines_in events)
+        (on.sink.written call.after.out)
     -- devices that were not asked
     pub untouched : Untouched on call.before call.after (events ++ take 1 rest)
     -- the answer

@@ -1,27 +1,20 @@
 -- What the parts of a call do: events that were all done, and the one before which a story stopped.
 use Rattle.std.specs.Prelude.{◌≡◌, ◌⊎◌, ℕ, true, List, [], ◌∷◌, ◌++◌, take, Option, None, Some, Result, Ok}
 use Rattle.std.specs.List.{list_any}
-use Rattle.group_fields.specs.Counts.{IsRaised}
-use Rattle.group_fields.specs.declared.counts.Counts.{Counts}
 use Rattle.disk_trait.specs.Disk.{LeavesOnly}
 use Rattle.disk_trait.specs.Moments.{OnlyReads, Throughout}
 use Rattle.disk_trait.specs.declared.disk.Disk.{Ghosts as DiskGhosts}
 use Rattle.kem_trait.specs.declared.kem.Kem.{Ghosts as KemGhosts}
 use Rattle.mail_trait.specs.Sink.{AppendsPrefix}
 use Rattle.mail_trait.specs.declared.sink.Sink.{Ghosts as SinkGhosts}
-use Rattle.mailbox_cli.specs.Call.{Answers, Devices, Moment, IsAmong, IsUncounted, WantRose, HasCauses, Untouched}
-use Rattle.mailbox_cli.specs.Call.{Counted, LeavesSteps, LeavesPost, LeavesLines, LeavesAsked, LeavesEnd}
+use Rattle.mailbox_cli.specs.Call.{Answers, IsFaultOf, Devices, Moment, IsAmong, IsUncounted, WantRose, HasCauses}
+use Rattle.mailbox_cli.specs.Call.{Untouched, LeavesSteps, LeavesPost, LeavesLines, LeavesAsked, LeavesEnd}
 use Rattle.mailbox_cli.specs.Lines.{refusal_line, status_of}
 use Rattle.mailbox_cli.specs.Steps.{Step, steps_of}
 use Rattle.mailbox_cli.specs.Story.{Event, seeds_in, plans_in, puts_in, lines_in, steps_after, files_after, asked_after}
 use Rattle.mailbox_cli.specs.Story.{is_acknowledged, is_opening}
 use Rattle.mailbox_cli.specs.declared.ended.Ended.{Ended}
 use Rattle.mailbox_cli.specs.declared.ended.Refusal.{Refusal}
-
--- the device of a status failed, or it wanted memory, and counted it
-pub data IsFaultOf (status : ℕ) (before now : Counts) (ended : Ended) : Type 0 where
-  failed : Answers status None ended → IsRaised before.faults now.faults → IsFaultOf status before now ended
-  wanted : Answers 9 None ended → IsRaised before.wants now.wants → IsFaultOf status before now ended
 
 -- A line was written whole and this is the answer, or a part of it and the output is the cause.
 pub data Says {S : Type 0} (sink : SinkGhosts S) (text : List ℕ) (status : ℕ) (refusal : Option Refusal) (out out' : S)
@@ -52,16 +45,14 @@ module _ {K L D : Type 0} (kem : KemGhosts K L) (disk : DiskGhosts D) where
         (λ image. disk.image first image ⊎ IsAmong read events (steps_of kem image))
     pub bytes : plans_in events ≡ [] → OnlyReads disk first last
 
-  -- A story stopped before events, at a disk that read so.
-  pub record DiskStops (rest : List Event) (read : Result (List Step) ℕ) (first last : D) : Type 0 where
-    pub steps : LeavesSteps (Counted (disk.counts first) (disk.counts last)) rest read
-        (steps_of kem (disk.content last))
+  -- A story stopped before events, at a disk that read so. Of the disk it may be said that it failed.
+  pub record DiskStops (fault : Type 0) (rest : List Event) (read : Result (List Step) ℕ) (first last : D) : Type 0 where
+    pub steps : LeavesSteps fault rest read (steps_of kem (disk.content last))
     pub images : IsSettled disk first → (image : List ℕ) → disk.image last image
-        → LeavesSteps (Counted (disk.counts first) (disk.counts last)) rest read (steps_of kem image)
+        → LeavesSteps fault rest read (steps_of kem image)
     pub moments : Throughout disk first last
         (λ image. disk.image first image ⊎ IsAmong read (take 1 rest) (steps_of kem image))
-    pub bytes : (plans_in (take 1 rest) ≡ []) ⊎ ¬ (Counted (disk.counts first) (disk.counts last))
-        → OnlyReads disk first last
+    pub bytes : (plans_in (take 1 rest) ≡ []) ⊎ ¬ fault → OnlyReads disk first last
 
 module _ {K L D P E S : Type 0} (kem : KemGhosts K L) (on : Devices D P E S) where
   -- Events that were all done, from one moment to another.
@@ -84,10 +75,12 @@ module _ {K L D P E S : Type 0} (kem : KemGhosts K L) (on : Devices D P E S) whe
     pub asked : on.entropy.told
         → LeavesAsked rest ended (on.entropy.asked first.entropy) (on.entropy.asked last.entropy)
     pub disk : on.disk.told → steps_of kem (on.disk.content first.disk) ≡ read
-        → DiskStops kem on.disk rest read first.disk last.disk
+        → DiskStops kem on.disk (IsFaultOf 4 (on.disk.counts first.disk) (on.disk.counts last.disk) ended) rest read
+        first.disk last.disk
     pub posts : on.post.told → LeavesPost rest (on.post.files first.post) (on.post.puts first.post)
         (on.post.files last.post) (on.post.puts last.post)
-    pub lines : on.sink.told → LeavesLines rest (on.sink.written first.out) (on.sink.written last.out)
+    pub lines : on.sink.told → LeavesLines (IsFaultOf 7 (on.sink.counts first.out) (on.sink.counts last.out) ended) rest
+        (on.sink.written first.out) (on.sink.written last.out)
     pub untouched : Untouched on first last (take 1 rest)
     pub causes : HasCauses on first last ended
     pub ending : LeavesEnd rest ended

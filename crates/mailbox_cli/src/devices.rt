@@ -3,7 +3,7 @@ ghost use Rattle.std.specs.FinMap.{insert};
 ghost use Rattle.group_fields.specs.Plan.{next_call};
 ghost use Rattle.mail_trait.specs.Post.{SameElsewhere, whole_put, failed_put};
 ghost use Rattle.mail_trait.specs.Sink.{AppendsPrefix};
-ghost use Rattle.mailbox_cli.specs.Parts.{IsFaultOf};
+ghost use Rattle.mailbox_cli.specs.Call.{IsFaultOf};
 
 use crate::ended::Ended;
 use mail_trait::{Entropy, MailError, Post, Sink};

@@ -7,7 +7,8 @@ ghost use Rattle.member_journal.specs.Scan.{FaultHasCause, KeepsDisk};
 ghost use Rattle.member_journal.specs.declared.fault.JournalFault.TheVariants.{NotJournal};
 ghost use Rattle.member_journal.specs.Format.{most_records, longest_record};
 ghost use Rattle.mailbox_cli.specs.Opening.{disk_after, fault_in, IsNext};
-ghost use Rattle.mailbox_cli.specs.Parts.{DiskDid, DiskStops, IsFaultOf};
+ghost use Rattle.mailbox_cli.specs.Call.{IsFaultOf};
+ghost use Rattle.mailbox_cli.specs.Parts.{DiskDid, DiskStops};
 ghost use Rattle.mailbox_cli.specs.Steps.{Step, record_of, inviter_of, is_init, has_key, step_of, member_of, steps_of};
 ghost use Rattle.mailbox_cli.specs.Story.{Event, plans};
 
@@ -172,8 +173,8 @@ pub(crate) fn commit<K: Kem, D: Disk>(
         (disk_of journal) (disk_of next)) }
     ensures stops { D.told → (steps : List Step) (step : Step) (later : List Event)
         → IsNext ⟦<K as Kem>⟧ journal bytes.now steps step
-        → IfErr result (λ refused. DiskStops ⟦<K as Kem>⟧ ⟦<D as Disk>⟧ (plans step ∷ later) (Ok steps)
-        (disk_of journal) refused.0) }
+        → IfErr result (λ refused. DiskStops ⟦<K as Kem>⟧ ⟦<D as Disk>⟧ (IsFaultOf 4 (D.counts (disk_of journal))
+        (D.counts refused.0) refused.1) (plans step ∷ later) (Ok steps) (disk_of journal) refused.0) }
     ensures counts { IfOk result (λ next. D.counts (disk_of next) ≡ D.counts (disk_of journal)) }
     ensures cause { IfErr result (λ refused. IsFaultOf 4 (D.counts (disk_of journal)) (D.counts refused.0) refused.1) }
 {
