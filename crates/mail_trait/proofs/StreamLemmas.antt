@@ -18,11 +18,6 @@ take-filled m a k n xs ys is within fits =
     ∙ ap (λ l. take a xs ++ take n l) (drop_at (take a xs) (ys ++ rest) a front)
     ∙ ap (λ l. take a xs ++ l) (take-append-le n ys rest fits)
 
--- and where the read failed
-pub take-unfilled : (m a k : ℕ) (xs ys : List ℕ) → m ≡ a → a ≤ length xs → take m (put_mid a k xs ys) ≡ take a xs
-take-unfilled m a k xs ys is within =
-    ap (λ l. take l (put_mid a k xs ys)) is ∙ take_at (take a xs) (ys ++ post_of a k xs) a (length-take-le a xs within)
-
 -- the front of a list and more of it, from a part that reaches to its end
 pub take-more : (m a n k : ℕ) (xs : List ℕ) → m ≡ a + n → n ≤ k → take m xs ≡ take a xs ++ take n (take k (drop a xs))
 take-more m a n k xs is fits =

@@ -9,7 +9,7 @@ use crate::streams::{read_at_most, write_new};
 use group_fields::Bytes;
 use std::alloc::Global;
 use std::io::ErrorKind;
-use system_calls::{CallError, FileCalls};
+use system_calls::{CallError, FileCalls, sync_again};
 
 /// How the names begin under which a put writes before it renames. No packet and no card has such a name.
 pub(crate) const TEMPORARY: &str = ".unfinished-";
@@ -116,7 +116,7 @@ fn write_lasting<C: FileCalls>(
     ensures calm { OnOk result (C.failures calls.new ≡ C.failures calls.old) }
 {
     write_new(calls, &mut file, bytes)?;
-    calls.sync(&mut file)
+    sync_again(calls, &mut file)
 }
 
 /// Writes a new file whole, and renames it.

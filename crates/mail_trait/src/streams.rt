@@ -7,7 +7,10 @@ ghost use Rattle.mail_trait.specs.Streams.{Ended, fresh_with};
 
 use std::alloc::Global;
 use std::io::ErrorKind;
-use system_calls::{CallError, FileCalls, OutputCalls, RandomCalls};
+use system_calls::{
+    CallError, FileCalls, OutputCalls, RandomCalls, read_again, read_at_again, write_again,
+    write_at_again,
+};
 
 /// How many bytes one read asks for at most.
 const BLOCK: usize = 8192;
@@ -34,18 +37,14 @@ fn fill_from<C: RandomCalls>(
         (C.last_failure calls.new) result }
 {
     let mut filled = 0;
-    for _ in 0..u64::MAX {
-        if filled == into.len() {
-            return Ok(());
+    while filled < into.len() {
+        let count = read_again(calls, device, &mut into[filled..])?;
+        if count == 0 {
+            return Err(CallError::Failed(ErrorKind::UnexpectedEof));
         }
-        match calls.read(device, &mut into[filled..]) {
-            Ok(0) => return Err(CallError::Failed(ErrorKind::UnexpectedEof)),
-            Ok(count) => filled += count,
-            Err(CallError::Interrupted) => {}
-            Err(error) => return Err(error),
-        }
+        filled += count;
     }
-    Err(CallError::Interrupted)
+    Ok(())
 }
 
 /// Writes all the bytes.
@@ -54,18 +53,11 @@ pub(crate) fn write_out<C: OutputCalls>(calls: &mut C, bytes: &[u8]) -> Result<(
     ensures prefix { C.told → AppendsPrefix bytes.now (C.written calls.old) (C.written calls.new) }
     ensures ends { EndsAs (λ _. ⊥) (C.failures calls.old) (C.failures calls.new) (C.last_failure calls.new) result }
 {
-    let mut count = 0;
-    for _ in 0..u64::MAX {
-        if count == bytes.len() {
-            return Ok(());
-        }
-        match calls.write(&bytes[count..]) {
-            Ok(more) => count += more,
-            Err(CallError::Interrupted) => {}
-            Err(error) => return Err(error),
-        }
+    let mut done = 0;
+    while done < bytes.len() {
+        done += write_again(calls, &bytes[done..])?;
     }
-    Err(CallError::Interrupted)
+    Ok(())
 }
 
 /// Reads from the start of a file to its end, or until there are `limit` bytes.
@@ -85,12 +77,11 @@ pub(crate) fn read_at_most<C: FileCalls>(
     let mut block = [0; BLOCK];
     for _ in 0..u64::MAX {
         let room = BLOCK.min(limit as usize - bytes.len());
-        match calls.read_at(file, bytes.len() as u64, &mut block[..room]) {
-            Ok(0) => return Ok(bytes),
-            Ok(count) => bytes.extend_from_slice(&block[..count])?,
-            Err(CallError::Interrupted) => {}
-            Err(error) => return Err(error),
+        let count = read_at_again(calls, file, bytes.len() as u64, &mut block[..room])?;
+        if count == 0 {
+            return Ok(bytes);
         }
+        bytes.extend_from_slice(&block[..count])?;
     }
     Err(CallError::Interrupted)
 }
@@ -107,16 +98,9 @@ pub(crate) fn write_new<C: FileCalls>(
     ensures path { C.path_of file.new ≡ C.path_of file.old }
     ensures calm { OnOk result (C.failures calls.new ≡ C.failures calls.old) }
 {
-    let mut count = 0;
-    for _ in 0..u64::MAX {
-        if count == bytes.len() {
-            return Ok(());
-        }
-        match calls.write_at(file, count as u64, &bytes[count..]) {
-            Ok(more) => count += more,
-            Err(CallError::Interrupted) => {}
-            Err(error) => return Err(error),
-        }
+    let mut done = 0;
+    while done < bytes.len() {
+        done += write_at_again(calls, file, done as u64, &bytes[done..])?;
     }
-    Err(CallError::Interrupted)
+    Ok(())
 }

@@ -1,6 +1,7 @@
 //! Single calls on files, for random bytes and on an output, each with what it leaves: over the machine, and in memory.
 #![tactic(auto)]
 
+mod again;
 mod changes;
 mod error;
 mod file_calls;
@@ -17,6 +18,7 @@ mod stored;
 #[cfg(test)]
 mod tests;
 
+pub use again::{read_again, read_at_again, sync_again, write_again, write_at_again};
 pub use error::CallError;
 pub use file_calls::FileCalls;
 pub use mem_files::{MemFile, MemFiles};

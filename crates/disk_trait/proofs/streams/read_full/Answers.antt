@@ -13,12 +13,12 @@ loop-filled-preserved g c =
     let from = c.loop-filled.filled in
     let n = c.in_ok-count.count in
     let cur = c.loop-filled.into in
-    let buf = c.read_again.new.into in
+    let buf = c.read_at_again.new.into in
     let room = length c.loop-filled.into - c.loop-filled.filled in
     let place = c.saturating_add-place.result in
     let content = bytes_of (files.file_at c.args.calls.now (files.path_of c.args.file.now)) in
-    let whole : length (put_mid c.loop-filled.filled (length c.loop-filled.into - c.loop-filled.filled) c.loop-filled.into c.read_again.new.into) ≡ length c.loop-filled.into = search rules in
-    let size : length c.read_again.new.into ≡ length c.loop-filled.into - c.loop-filled.filled = search rules in
+    let whole : length (put_mid c.loop-filled.filled (length c.loop-filled.into - c.loop-filled.filled) c.loop-filled.into c.read_at_again.new.into) ≡ length c.loop-filled.into = search rules in
+    let size : length c.read_at_again.new.into ≡ length c.loop-filled.into - c.loop-filled.filled = search rules in
     let reads = λ (told : files.told).
     reads_of (files.file_at c.args.calls.now (files.path_of c.args.file.now)) place n (take room (drop from cur)) buf
     (subst (λ stored. IsSomeAnd stored (λ file. ReadsSome file.bytes place n (take room (drop from cur)) buf))
@@ -44,12 +44,12 @@ returns-then-count-eq0-clause-bytes g c = λ told.
     let from = c.loop-filled.filled in
     let n = c.in_ok-count.count in
     let cur = c.loop-filled.into in
-    let buf = c.read_again.new.into in
+    let buf = c.read_at_again.new.into in
     let room = length c.loop-filled.into - c.loop-filled.filled in
     let place = c.saturating_add-place.result in
     let content = bytes_of (files.file_at c.args.calls.now (files.path_of c.args.file.now)) in
-    let whole : length (put_mid c.loop-filled.filled (length c.loop-filled.into - c.loop-filled.filled) c.loop-filled.into c.read_again.new.into) ≡ length c.loop-filled.into = search rules in
-    let size : length c.read_again.new.into ≡ length c.loop-filled.into - c.loop-filled.filled = search rules in
+    let whole : length (put_mid c.loop-filled.filled (length c.loop-filled.into - c.loop-filled.filled) c.loop-filled.into c.read_at_again.new.into) ≡ length c.loop-filled.into = search rules in
+    let size : length c.read_at_again.new.into ≡ length c.loop-filled.into - c.loop-filled.filled = search rules in
     let reads =
     reads_of (files.file_at c.args.calls.now (files.path_of c.args.file.now)) place n (take room (drop from cur)) buf
     (subst (λ stored. IsSomeAnd stored (λ file. ReadsSome file.bytes place n (take room (drop from cur)) buf))

@@ -16,12 +16,12 @@ loop-done-preserved g c =
     let path = files.path_of c.args.file.now in
     let old = files.file_at c.args.calls.now path in
     let mid = files.file_at c.loop-done.calls path in
-    let new = files.file_at c.write_again.new.calls path in
+    let new = files.file_at c.write_at_again.new.calls path in
     let rest = take (length bytes - done) (drop done bytes) in
     let left = take_rest bytes done in
     let some : 0 < c.in_ok-done.field-0 = now.some (omega (arith, c.loop-done-test.true, ap length left, length-drop c.loop-done.done c.args.bytes.now)) in
     let writes = λ (told : files.told).
-    subst (λ p. WritesSome place n rest (files.file_at c.loop-done.calls p) (files.file_at c.write_again.new.calls p)) inv.path (now.written told) in
+    subst (λ p. WritesSome place n rest (files.file_at c.loop-done.calls p) (files.file_at c.write_at_again.new.calls p)) inv.path (now.written told) in
     let here = λ (told : files.told). let f = inv.fits told in let e : c.saturating_add-place.result ≡ c.args.at + c.loop-done.done = omega (arith, f, c.saturating_add-place.ensures) in e in
     record {
       within = omega (arith, now.within, inv.within, ap length left, length-drop c.loop-done.done c.args.bytes.now);

@@ -1,29 +1,22 @@
-use Rattle.std.proofs.Common.{◌∙◌, ◌++◌, ◌-◌, length, drop, take, sym, ap, append_assoc, arith}
+use Rattle.std.proofs.Common.{◌∙◌, ◌++◌, ◌-◌, length, drop, take, refl, sym, ap, append_assoc, arith}
 use Rattle.mail_trait.proofs.StreamLemmas.{take-more}
 use Rattle.mail_trait.proofs.streams.write_out.Goals as goal
-use Rattle.mail_trait.proofs.streams.write_out.Goals.{in-Ok, in-Err-Interrupted}
 
-pub loop-preserved : goal.loop-preserved
-loop-preserved g c =
+pub loop-done-preserved : goal.loop-done-preserved
+loop-done-preserved g c =
     let bytes = c.args.bytes.now in
-    let at = c.loop.count in
+    let at = c.loop-done.done in
+    let n = c.in_ok-done.field-0 in
+    let was = c.loop-done.invariant in
+    let now = c.in_ok-done.ensures in
     let part = take (length bytes - at) (drop at bytes) in
-    elim c.match-write.branch [
-      | in-Ok w ↦ record {
-        within = omega (arith, w.in-Ok.ensures.within, w.count-is, c.loop.invariant.within);
-        written = λ told.
-            w.in-Ok.ensures.written told
-            ∙ ap (λ l. l ++ take w.in-Ok.more part) (c.loop.invariant.written told)
-            ∙ append_assoc (g.C.OutputCalls.written c.args.calls.now) (take at bytes) (take w.in-Ok.more part)
-            ∙ ap (λ l. g.C.OutputCalls.written c.args.calls.now ++ l)
-            (sym (take-more _ at w.in-Ok.more (length bytes - at) bytes w.count-is (omega (arith, w.in-Ok.ensures.within))));
-        calm = w.in-Ok.ensures.failures ∙ c.loop.invariant.calm;
-      }
-      | in-Err-Interrupted w ↦ record {
-        within = omega (arith, w.count-is, c.loop.invariant.within);
-        written = λ told.
-            w.in-Err-Interrupted.ensures.kept told ∙ c.loop.invariant.written told
-            ∙ ap (λ n. g.C.OutputCalls.written c.args.calls.now ++ take n bytes) (sym w.count-is);
-        calm = (rw w.in-Err-Interrupted.field-0-is at w.in-Err-Interrupted.ensures.failures) ∙ c.loop.invariant.calm;
-      }
-    ]
+    record {
+      within = omega (arith, now.within, was.within);
+      written = λ told.
+          now.written told
+          ∙ ap (λ l. l ++ take n part) (was.written told)
+          ∙ append_assoc (g.C.OutputCalls.written c.args.calls.now) (take at bytes) (take n part)
+          ∙ ap (λ l. g.C.OutputCalls.written c.args.calls.now ++ l)
+          (sym (take-more _ at n (length bytes - at) bytes refl (omega (arith, now.within))));
+      calm = now.failures ∙ was.calm;
+    }

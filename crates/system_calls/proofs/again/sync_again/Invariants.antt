@@ -1,6 +1,6 @@
 use Rattle.std.proofs.Common.{◌≡◌}
 use Rattle.system_calls.specs.Stored.{KeepsBytes, SameElsewhere}
-use Rattle.disk_trait.proofs.streams.sync_again.Given as goal
+use Rattle.system_calls.proofs.again.sync_again.Given as goal
 
 -- an interrupted sync has changed no bytes
 abbrev pub invariant-loop : goal.invariant-loop

@@ -1,6 +1,6 @@
 use Rattle.std.proofs.Common.{◌≡◌}
 use Rattle.system_calls.specs.Stored.{SameFiles}
-use Rattle.disk_trait.proofs.streams.write_again.Given as goal
+use Rattle.system_calls.proofs.again.write_at_again.Given as goal
 
 -- an interrupted write has done nothing
 abbrev pub invariant-loop : goal.invariant-loop

@@ -1,6 +1,6 @@
 use Rattle.std.proofs.Common.{◌≡◌}
 use Rattle.system_calls.specs.Stored.{SameFiles}
-use Rattle.disk_trait.proofs.streams.read_again.Given as goal
+use Rattle.system_calls.proofs.again.read_at_again.Given as goal
 
 -- an interrupted read has done nothing
 abbrev pub invariant-loop : goal.invariant-loop
