@@ -3,6 +3,7 @@ use Rattle.std.specs.Prelude.{◌≡◌, ◌⊎◌, ℕ, List, length}
 use Rattle.disk_trait.specs.declared.memory.MemDisk.{MemDisk}
 use Rattle.group_fields.specs.declared.counts.Counts.{Counts}
 use Rattle.group_fields.specs.Plan.{KeepsPlan, next_call}
+use Rattle.system_calls.specs.Plan.{failing_in, made_in, counts_in}
 use Rattle.disk_trait.specs.Replay.{Standing, fresh, replayed, IsImageSince}
 
 -- what a read gives
@@ -15,15 +16,15 @@ standing disk = replayed (fresh disk.first.items) disk.changes.items
 
 -- the numbers of the calls that fail, from 1
 abbrev pub failing_calls : MemDisk → List ℕ
-failing_calls disk = disk.failing.items
+failing_calls disk = failing_in disk.plan
 
 -- how many calls there were
 abbrev pub calls : MemDisk → ℕ
-calls disk = disk.asked
+calls disk = made_in disk.plan
 
 -- how often it has failed, and wanted memory
 abbrev pub counted : MemDisk → Counts
-counted disk = disk.counts
+counted disk = counts_in disk.plan
 
 -- how many changes it went through
 abbrev pub moments : MemDisk → ℕ

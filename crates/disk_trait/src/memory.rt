@@ -1,9 +1,7 @@
-ghost use Rattle.std.specs.Prelude.{◌≡◌, ◌+◌, ◌-◌, ◌≤◌, ◌<◌, ◌^◌, ◌↔◌, min, max, Contains, IsTrue, ℕ, List, [], ◌∷◌};
-ghost use Rattle.std.specs.Prelude.{◌++◌};
-ghost use Rattle.std.specs.Prelude.{length, take, drop, map, IfErr, IfOk, OnOk, OnErr, IsOk, vec_len, vec_capacity};
+ghost use Rattle.std.specs.Prelude.{◌≡◌, ◌+◌, ◌-◌, ◌≤◌, ◌<◌, ◌^◌, min, max, ℕ, List, [], ◌∷◌, ◌++◌};
+ghost use Rattle.std.specs.Prelude.{length, take, drop, map, IfOk, OnOk, OnErr, IsOk, vec_len, vec_capacity};
 ghost use Rattle.std.specs.Prelude.{cond, if◌then◌else◌};
 ghost use Rattle.group_fields.specs.Cause.{HasCause};
-ghost use Rattle.group_fields.specs.Counts.{greatest_count, IsRaised};
 ghost use Rattle.group_fields.specs.Plan.{FailsAsPlanned};
 ghost use Rattle.disk_trait.specs.Disk.{LeavesOnly, MayNot, MayTear, Passes, ReadsPart, Wrote};
 ghost use Rattle.disk_trait.specs.Images.{content_image, image_now, only_image_now};
@@ -13,21 +11,15 @@ ghost use Rattle.disk_trait.specs.Replay.{overwritten, overlay, overlay_inverted
 ghost use Rattle.disk_trait.specs.Replay.{fresh, written_over, replayed, content_of, IsImage, crash_image};
 
 use crate::{Disk, DiskError};
-use group_fields::{Bytes, Counts, Memory};
+use group_fields::{Bytes, Memory};
 use std::alloc::{AllocError, Global};
+use system_calls::Plan;
 
 /// A change that a disk in memory went through.
 #[derive(Debug, Drop)]
 pub(crate) enum Change {
     Write(usize, Bytes),
     Sync,
-}
-
-/// Whether a call is one of those that are to fail.
-fn is_due(failing: &[u32], call: u64) -> bool
-    ensures { IsTrue result ↔ Contains failing.now call }
-{
-    failing.iter().any(|&number| u64::from(number) == call)
 }
 
 /// Copies bytes with each of them inverted.
@@ -119,9 +111,7 @@ pub struct MemDisk {
     first: Vec<u8>,
     changes: Vec<Change>,
     bytes: Vec<u8>,
-    failing: Vec<u32>,
-    asked: u64,
-    counts: Counts,
+    plan: Plan,
     ghost shows: { bytes.items ≡ content_of (replayed (fresh first.items) changes.items) },
     ghost room: { vec_len bytes ≤ vec_capacity first },
 }
@@ -137,7 +127,7 @@ impl MemDisk {
         ensures unasked { IfOk result (λ disk. calls disk ≡ 0) }
         ensures uncounted { IfOk result (λ disk. counted disk ≡ record { faults = 0; wants = 0 }) }
     {
-        Ok(MemDisk::with_failing(alloc, failing.to_vec(alloc)?))
+        Ok(MemDisk::with_plan(alloc, Plan::new(alloc, failing)?))
     }
 
     /// An empty disk of which no call fails.
@@ -148,25 +138,21 @@ impl MemDisk {
         ensures unasked { calls result ≡ 0 }
         ensures uncounted { counted result ≡ record { faults = 0; wants = 0 } }
     {
-        MemDisk::with_failing(alloc, Vec::new(alloc))
+        MemDisk::with_plan(alloc, Plan::honest(alloc))
     }
 
-    fn with_failing(alloc: Global, failing: Vec<u32>) -> MemDisk
+    fn with_plan(alloc: Global, plan: Plan) -> MemDisk
         ensures empty { result.bytes.items ≡ [] }
         ensures unchanged { result.changes.items ≡ [] }
         ensures first { result.first.items ≡ [] }
-        ensures failing { result.failing.items ≡ failing.items }
-        ensures unasked { result.asked ≡ 0 }
-        ensures uncounted { result.counts ≡ record { faults = 0; wants = 0 } }
+        ensures plan { result.plan ≡ plan }
     {
         MemDisk {
             alloc,
             first: Vec::new(alloc),
             changes: Vec::new(alloc),
             bytes: Vec::new(alloc),
-            failing,
-            asked: 0,
-            counts: Counts::NONE,
+            plan,
         }
     }
 
@@ -177,25 +163,6 @@ impl MemDisk {
         &self.bytes
     }
 
-    /// Counts a call, and a failure where this call is one of those that are to fail.
-    fn begin(&mut self) -> Result<(), DiskError>
-        ensures ok { OnOk result (self.new ≡ record self.old { asked = min (self.old.asked + 1) greatest_count }) }
-        ensures err { OnErr result ((IsRaised self.old.counts.faults self.new.counts.faults)
-            × (self.new ≡ record self.old {
-              asked = min (self.old.asked + 1) greatest_count;
-              counts = record { faults = self.new.counts.faults; wants = self.old.counts.wants };
-            })) }
-        ensures planned { FailsAsPlanned Failed self.old.failing.items self.old.asked self.new.asked result }
-        ensures failed { IfErr result (λ error. error ≡ Failed) }
-    {
-        self.asked = self.asked.saturating_add(1);
-        if is_due(&self.failing, self.asked) {
-            self.counts.add_fault();
-            return Err(DiskError::Failed);
-        }
-        Ok(())
-    }
-
     /// Writes at a place, in memory that it takes first.
     fn put(&mut self, at: u64, bytes: &[u8]) -> Result<(), Memory>
         ensures bytes { OnOk result (self.new.bytes.items ≡ overwritten at bytes.now self.old.bytes.items) }
@@ -203,9 +170,7 @@ impl MemDisk {
         ensures first { self.new.first.items ≡ self.old.first.items }
         ensures err { OnErr result ((self.new.bytes.items ≡ self.old.bytes.items)
             × (self.new.changes.items ≡ self.old.changes.items)) }
-        ensures failing { self.new.failing.items ≡ self.old.failing.items }
-        ensures counts { self.new.counts ≡ self.old.counts }
-        ensures asked { self.new.asked ≡ self.old.asked }
+        ensures plan { self.new.plan ≡ self.old.plan }
     {
         let at = usize::try_from(at).map_err(|_| AllocError)?;
         let end = at.checked_add(bytes.len()).ok_or(AllocError)?;
@@ -238,9 +203,7 @@ impl MemDisk {
         ensures err { OnErr result (self.new.changes.items ≡ self.old.changes.items) }
         ensures first { self.new.first.items ≡ self.old.first.items }
         ensures bytes { self.new.bytes.items ≡ self.old.bytes.items }
-        ensures failing { self.new.failing.items ≡ self.old.failing.items }
-        ensures counts { self.new.counts ≡ self.old.counts }
-        ensures asked { self.new.asked ≡ self.old.asked }
+        ensures plan { self.new.plan ≡ self.old.plan }
     {
         self.changes.push(Change::Sync)?;
         Ok(())
@@ -324,7 +287,7 @@ impl Disk for MemDisk {
         ensures cause { HasCause Failed Memory (counted self.old) (counted self.new) result }
         ensures follows { Follows self.old self.new }
     {
-        self.begin()?;
+        self.plan.begin(DiskError::Failed)?;
         Ok(self.bytes.len() as u64)
     }
 
@@ -340,7 +303,7 @@ impl Disk for MemDisk {
         ensures cause { HasCause Failed Memory (counted self.old) (counted self.new) result }
         ensures follows { Follows self.old self.new }
     {
-        self.begin()?;
+        self.plan.begin(DiskError::Failed)?;
         Ok(copy_part(&self.bytes, at, into))
     }
 
@@ -357,13 +320,10 @@ impl Disk for MemDisk {
         ensures cause { HasCause Failed Memory (counted self.old) (counted self.new) result }
         ensures follows { Follows self.old self.new }
     {
-        self.begin()?;
+        self.plan.begin(DiskError::Failed)?;
         match self.put(at, bytes) {
             Ok(()) => Ok(()),
-            Err(_) => {
-                self.counts.add_want();
-                Err(DiskError::Memory)
-            }
+            Err(_) => Err(self.plan.want(DiskError::Memory)),
         }
     }
 
@@ -381,13 +341,10 @@ impl Disk for MemDisk {
         ensures follows { Follows self.old self.new }
         ensures syncs { Syncs self.old self.new }
     {
-        self.begin()?;
+        self.plan.begin(DiskError::Failed)?;
         match self.settle() {
             Ok(()) => Ok(()),
-            Err(_) => {
-                self.counts.add_want();
-                Err(DiskError::Memory)
-            }
+            Err(_) => Err(self.plan.want(DiskError::Memory)),
         }
     }
 }

@@ -6,7 +6,7 @@ use std::os::unix::fs::{MetadataExt, PermissionsExt};
 use std::process::Abort;
 use std::test::Fail;
 use std::{fs, io};
-use system_calls::{CallError, Failing, FileCalls, MemFiles, RealFiles, StoredFile};
+use system_calls::{CallError, FileCalls, MemFiles, RealFiles, StoredFile};
 
 /// Four bytes that are settled, and two pending writes that overlap and go past the end.
 fn fill<D: Disk>(disk: &mut D) -> Result<(), DiskError> {
@@ -140,7 +140,7 @@ fn disk_over<C: FileCalls + Drop>(
 }
 
 /// Makes a file, syncs it, writes once more and reads. Answers how many of the six calls went well before one failed.
-fn steps<D: Disk>(disk: &mut D) -> u32 {
+fn six_calls<D: Disk>(disk: &mut D) -> u32 {
     if disk.len().is_err() {
         return 0;
     }
@@ -162,25 +162,25 @@ fn steps<D: Disk>(disk: &mut D) -> u32 {
     6
 }
 
-/// How far the steps come where the call of a number fails, and what the disk says of it.
-fn stopped(alloc: Global, call: u64, error: CallError) -> Result<(u32, Option<ErrorKind>), Memory> {
-    let calls = MemFiles::new(alloc, &[Failing { call, error }], usize::MAX)?;
+/// How far the six calls come where the call of a number fails, and what the disk says of it.
+fn stopped(alloc: Global, call: u32, error: CallError) -> Result<(u32, Option<ErrorKind>), Memory> {
+    let calls = MemFiles::new(alloc, &[call], error, usize::MAX)?;
     let mut disk = disk_over(calls, alloc, PATH)?;
-    let done = steps(&mut disk);
+    let done = six_calls(&mut disk);
     Ok((done, disk.reason()))
 }
 
 #[test]
 fn no_failure_of_a_call_is_swallowed(rt: HostRuntime) -> Result<(), Fail> {
     // len: open; write: make, lock, sync the name, write; sync; write; len; read: twice, to the end
-    let steps_of_calls = [0, 1, 1, 1, 1, 2, 3, 4, 5, 5];
+    let ended_before = [0, 1, 1, 1, 1, 2, 3, 4, 5, 5];
     let full = CallError::Failed(ErrorKind::StorageFull);
-    for (before, step) in steps_of_calls.iter().enumerate() {
-        let call = before as u64 + 1;
+    for (before, ended) in ended_before.iter().enumerate() {
+        let call = before as u32 + 1;
         let answer = stopped(rt.alloc(), call, full)?;
         assert_eq!(rt;
             answer,
-            (*step, Some(ErrorKind::StorageFull)),
+            (*ended, Some(ErrorKind::StorageFull)),
             "call {call}"
         );
     }
@@ -192,12 +192,11 @@ fn no_failure_of_a_call_is_swallowed(rt: HostRuntime) -> Result<(), Fail> {
     Ok(())
 }
 
-/// The file after the steps, where a read or a write moves one byte, and some of them are interrupted.
+/// The file after the six calls, where a read or a write moves one byte, and some of them are interrupted.
 fn stepped(alloc: Global) -> Result<(u32, Option<StoredFile>), Memory> {
-    let error = CallError::Interrupted;
-    let failing = [5, 7, 8, 11, 13].map(|call| Failing { call, error });
-    let mut disk = disk_over(MemFiles::new(alloc, &failing, 1)?, alloc, PATH)?;
-    let done = steps(&mut disk);
+    let calls = MemFiles::new(alloc, &[5, 7, 8, 11, 13], CallError::Interrupted, 1)?;
+    let mut disk = disk_over(calls, alloc, PATH)?;
+    let done = six_calls(&mut disk);
     Ok((done, disk.calls().file(PATH)?))
 }
 

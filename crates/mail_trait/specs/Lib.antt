@@ -8,5 +8,4 @@ pub mod Files
 pub mod MemPost
 pub mod MemEntropy
 pub mod MemSink
-pub mod Plans
 pub mod Machine

@@ -2,6 +2,7 @@
 use Rattle.std.specs.Prelude.{ℕ, List}
 use Rattle.group_fields.specs.declared.counts.Counts.{Counts}
 use Rattle.group_fields.specs.Plan.{KeepsPlan}
+use Rattle.system_calls.specs.Plan.{failing_in, made_in, counts_in}
 use Rattle.mail_trait.specs.Files.{files_of}
 use Rattle.mail_trait.specs.Post.{Files, Put}
 use Rattle.mail_trait.specs.declared.mem_post.MemPost.{MemPost}
@@ -16,14 +17,14 @@ puts_in post = post.puts.items
 
 -- the numbers, from 1, of the calls that are to fail
 abbrev pub failing_calls : MemPost → List ℕ
-failing_calls post = post.calls.failing.items
+failing_calls post = failing_in post.plan
 
 -- how many calls it has had
 abbrev pub calls_made : MemPost → ℕ
-calls_made post = post.calls.made
+calls_made post = made_in post.plan
 
 abbrev pub counts_of : MemPost → Counts
-counts_of post = post.calls.counts
+counts_of post = counts_in post.plan
 
 -- the same calls are to fail, and where there are none, none has failed
 abbrev pub Follows : MemPost → MemPost → Type 0

@@ -2,7 +2,6 @@
 //! With each a form in memory, whose calls fail on demand, and an adapter over single calls of an operating system.
 #![tactic(auto)]
 
-mod calls;
 mod device_entropy;
 mod dir_post;
 mod entropy;

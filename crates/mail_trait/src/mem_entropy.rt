@@ -3,17 +3,17 @@ ghost use Rattle.group_fields.specs.Cause.{HasCause};
 ghost use Rattle.group_fields.specs.Plan.{next_call};
 ghost use Rattle.mail_trait.specs.declared.error.MailError.TheVariants.{Failed, Memory as NoMemory};
 
-use crate::calls::Calls;
 use crate::{Entropy, MailError};
 use group_fields::{Counts, Memory};
 use std::alloc::Global;
+use system_calls::Plan;
 
 /// Seeds from a list, whose calls fail by a plan, and after the last seed.
 #[derive(Debug, Drop)]
 pub struct MemEntropy {
     seeds: Vec<[u8; 32]>,
     next: usize,
-    calls: Calls,
+    plan: Plan,
 }
 
 impl MemEntropy {
@@ -30,7 +30,7 @@ impl MemEntropy {
         Ok(MemEntropy {
             seeds: seeds.to_vec(alloc)?,
             next: 0,
-            calls: Calls::new(alloc, failing)?,
+            plan: Plan::new(alloc, failing)?,
         })
     }
 
@@ -38,12 +38,12 @@ impl MemEntropy {
     pub fn asked(&self) -> u64
         ensures { result ≡ calls_made self.now }
     {
-        self.calls.made()
+        self.plan.made()
     }
 }
 
 impl Entropy for MemEntropy {
-    ghost use Rattle.mail_trait.specs.Plans.{follows-itself, follows-on};
+    ghost use Rattle.mail_trait.specs.MemEntropy.{follows-itself, follows-on};
     ghost use Rattle.mail_trait.specs.MemEntropy.{seeds_given, seeds_to_come};
     ghost use Rattle.mail_trait.specs.MemEntropy.{failing_calls, calls_made, counts_of, Follows};
 
@@ -70,14 +70,14 @@ impl Entropy for MemEntropy {
         ensures cause { HasCause Failed NoMemory (counts_of self.old) (counts_of self.new) result }
         ensures follows { Follows self.old self.new }
     {
-        self.calls.begin()?;
+        self.plan.begin(MailError::Failed)?;
         match self.seeds.get(self.next) {
             Some(seed) => {
                 *into = *seed;
                 self.next += 1;
                 Ok(())
             }
-            None => Err(self.calls.fail()),
+            None => Err(self.plan.fail(MailError::Failed)),
         }
     }
 

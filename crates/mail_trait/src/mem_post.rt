@@ -8,13 +8,13 @@ ghost use Rattle.mail_trait.specs.Files.{files_of};
 ghost use Rattle.mail_trait.specs.Post.{rows_of, whole_put, failed_put, SameElsewhere};
 ghost use Rattle.mail_trait.specs.declared.error.MailError.TheVariants.{Failed, Memory as NoMemory};
 
-use crate::calls::Calls;
 use crate::mem_files::{read_file, rows, store};
 use crate::put::note_put;
 use crate::{Listing, MailError, Post, Put};
 use group_fields::{Bytes, Counts, Memory};
 use std::alloc::Global;
 use std::collections::BTreeMap;
+use system_calls::Plan;
 
 /// A mail folder in memory, whose calls fail by a plan.
 #[derive(Drop)]
@@ -22,7 +22,7 @@ pub struct MemPost {
     alloc: Global,
     files: BTreeMap<String, Vec<u8>>,
     puts: Vec<Put>,
-    calls: Calls,
+    plan: Plan,
 }
 
 /// Puts a copy of the bytes under the name, and another at the end of the list. Where memory lacks, nothing changes.
@@ -62,7 +62,7 @@ impl MemPost {
             alloc,
             files: BTreeMap::new(alloc),
             puts: Vec::new(alloc),
-            calls: Calls::new(alloc, failing)?,
+            plan: Plan::new(alloc, failing)?,
         })
     }
 
@@ -78,7 +78,7 @@ impl MemPost {
             alloc,
             files: BTreeMap::new(alloc),
             puts: Vec::new(alloc),
-            calls: Calls::honest(alloc),
+            plan: Plan::honest(alloc),
         }
     }
 
@@ -113,9 +113,9 @@ impl Post for MemPost {
         ensures cause { HasCause Failed NoMemory (counts_of self.old) (counts_of self.new) result }
         ensures follows { Follows self.old self.new }
     {
-        self.calls.begin()?;
+        self.plan.begin(MailError::Failed)?;
         let outcome = rows(self.alloc, &self.files);
-        self.calls.end(outcome)
+        self.plan.end(outcome, MailError::Memory)
     }
 
     fn read(&mut self, name: &str, limit: u32) -> Result<Option<Bytes>, MailError>
@@ -128,9 +128,9 @@ impl Post for MemPost {
         ensures cause { HasCause Failed NoMemory (counts_of self.old) (counts_of self.new) result }
         ensures follows { Follows self.old self.new }
     {
-        self.calls.begin()?;
+        self.plan.begin(MailError::Failed)?;
         let outcome = read_file(self.alloc, &self.files, name, limit);
-        self.calls.end(outcome)
+        self.plan.end(outcome, MailError::Memory)
     }
 
     /// A put that is to fail is noted as one that failed. Where memory lacks for that, a want is counted too.
@@ -148,13 +148,13 @@ impl Post for MemPost {
         ensures cause { HasCause Failed NoMemory (counts_of self.old) (counts_of self.new) result }
         ensures follows { Follows self.old self.new }
     {
-        if let Err(failed) = self.calls.begin() {
+        if let Err(failed) = self.plan.begin(MailError::Failed) {
             let noted = note_put(&mut self.puts, self.alloc, name, bytes, false);
-            let _ = self.calls.end(noted);
+            let _ = self.plan.end(noted, MailError::Memory);
             return Err(failed);
         }
         let outcome = put_whole(&mut self.files, &mut self.puts, self.alloc, name, bytes);
-        self.calls.end(outcome)
+        self.plan.end(outcome, MailError::Memory)
     }
 
     ghost follows_itself = { λ post. keeps-itself _ _ };

@@ -4,16 +4,16 @@ ghost use Rattle.group_fields.specs.Plan.{FailsAsPlanned};
 ghost use Rattle.mail_trait.specs.Sink.{AppendsPrefix};
 ghost use Rattle.mail_trait.specs.declared.error.MailError.TheVariants.{Failed, Memory as NoMemory};
 
-use crate::calls::Calls;
 use crate::{MailError, Sink};
 use group_fields::{Counts, Memory};
 use std::alloc::Global;
+use system_calls::Plan;
 
 /// An output in memory, whose calls fail by a plan.
 #[derive(Debug, Drop)]
 pub struct MemSink {
     bytes: Vec<u8>,
-    calls: Calls,
+    plan: Plan,
 }
 
 impl MemSink {
@@ -28,7 +28,7 @@ impl MemSink {
     {
         Ok(MemSink {
             bytes: Vec::new(alloc),
-            calls: Calls::new(alloc, failing)?,
+            plan: Plan::new(alloc, failing)?,
         })
     }
 
@@ -41,7 +41,7 @@ impl MemSink {
     {
         MemSink {
             bytes: Vec::new(alloc),
-            calls: Calls::honest(alloc),
+            plan: Plan::honest(alloc),
         }
     }
 
@@ -74,9 +74,9 @@ impl Sink for MemSink {
         ensures cause { HasCause Failed NoMemory (counts_of self.old) (counts_of self.new) result }
         ensures follows { Follows self.old self.new }
     {
-        self.calls.begin()?;
+        self.plan.begin(MailError::Failed)?;
         let outcome = self.bytes.extend_from_slice(bytes);
-        self.calls.end(outcome)
+        self.plan.end(outcome, MailError::Memory)
     }
 
     ghost follows_itself = { λ sink. keeps-itself _ _ };

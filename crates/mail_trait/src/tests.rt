@@ -7,9 +7,7 @@ use std::alloc::{AllocError, Global};
 use std::fs;
 use std::io::ErrorKind;
 use std::test::Fail;
-use system_calls::{
-    CallError, Failing, MemFiles, MemOutput, MemRandom, RealFiles, RealRandom, StoredFile,
-};
+use system_calls::{CallError, MemFiles, MemOutput, MemRandom, RealFiles, RealRandom, StoredFile};
 
 const OTHER: CallError = CallError::Failed(ErrorKind::Other);
 
@@ -88,33 +86,13 @@ fn listed<P: Post>(alloc: Global, post: &mut P) -> Result<String, Fail> {
     Ok(shown(alloc, &post.list()?)?)
 }
 
-/// Which calls fail of a folder whose call of this number is to fail, what was put then, and what is listed.
-fn planned_post(alloc: Global, number: u32) -> Result<String, Fail> {
-    let mut post = MemPost::new(alloc, &[number])?;
+/// Which calls fail of a folder, what was put then, and what is listed.
+fn planned_post(alloc: Global, failing: &[u32]) -> Result<String, Fail> {
+    let mut post = MemPost::new(alloc, failing)?;
     let mut text = failed_calls(alloc, &mut post)?;
     text.push_str(puts_of(alloc, &post)?.as_str())?;
     text.push_str(listed(alloc, &mut post)?.as_str())?;
     Ok(text)
-}
-
-#[test]
-fn mem_post_keeps_files_and_puts(rt: HostRuntime) -> Result<(), Fail> {
-    let told = mem_post(rt.alloc())?;
-    assert_eq!(rt;
-        told.as_str(),
-        "a=5;b=10; first  second second one - -/b a b "
-    );
-    let cases = [
-        (1, "true false false false a!b b=1;"),
-        (2, "false true false false a b a=1;b=1;"),
-        (3, "false false true false a b a=1;b=1;"),
-        (4, "false false false true a b!a=1;"),
-    ];
-    for (number, want) in cases {
-        let told = planned_post(rt.alloc(), number)?;
-        assert_eq!(rt; told.as_str(), want, "plan {number}");
-    }
-    Ok(())
 }
 
 /// Answers and first bytes of four calls of two seeds, of which the second call is to fail, and the count of calls.
@@ -138,15 +116,6 @@ fn sunk(alloc: Global) -> Result<String, Fail> {
         let _ = sink.write(part.as_bytes());
     }
     Ok(String::from_str(alloc, str::from_utf8(sink.bytes())?)?)
-}
-
-#[test]
-fn memory_gives_seeds_and_takes_output(rt: HostRuntime) -> Result<(), Fail> {
-    let told = seeds(rt.alloc())?;
-    assert_eq!(rt; told.as_str(), "true 1;false 1;true 2;false 2;4");
-    let told = sunk(rt.alloc())?;
-    assert_eq!(rt; told.as_str(), "one three");
-    Ok(())
 }
 
 /// A plain file that would survive a loss of power.
@@ -174,8 +143,16 @@ fn under(alloc: Global, files: &MemFiles, path: &str) -> Result<String, Fail> {
     Ok(text)
 }
 
-fn folder_of(alloc: Global, failing: &[Failing], most: usize) -> Result<DirPost<MemFiles>, Fail> {
-    let mut files = MemFiles::new(alloc, failing, most)?;
+/// The numbers of the calls that are to fail and their error, and how many bytes a call moves at most.
+#[derive(Clone, Copy)]
+struct Calls {
+    failing: &'static [u32],
+    error: CallError,
+    most: usize,
+}
+
+fn folder_of(alloc: Global, calls: Calls) -> Result<DirPost<MemFiles>, Fail> {
+    let mut files = MemFiles::new(alloc, calls.failing, calls.error, calls.most)?;
     files.place("mail/a", stored(alloc, b"old")?)?;
     files.place("mail/b", stored(alloc, b"other")?)?;
     files.place("mail/.unfinished-7", stored(alloc, b"half")?)?;
@@ -190,8 +167,8 @@ fn put_new<P: Post>(post: &mut P) -> Result<(), MailError> {
 }
 
 /// What a put answers, the kind of its failure, and what its path and the first temporary path have then.
-fn put_with(alloc: Global, failing: &[Failing], most: usize) -> Result<String, Fail> {
-    let mut post = folder_of(alloc, failing, most)?;
+fn put_with(alloc: Global, calls: Calls) -> Result<String, Fail> {
+    let mut post = folder_of(alloc, calls)?;
     let answer = put_new(&mut post);
     let reason = post.reason();
     let path = under(alloc, post.calls(), "mail/a")?;
@@ -222,77 +199,9 @@ fn look<P: Post>(alloc: Global, post: &mut P) -> Result<String, Fail> {
     Ok(text)
 }
 
-fn look_with(alloc: Global, failing: &[Failing], most: usize) -> Result<String, Fail> {
-    let mut post = folder_of(alloc, failing, most)?;
+fn look_with(alloc: Global, calls: Calls) -> Result<String, Fail> {
+    let mut post = folder_of(alloc, calls)?;
     look(alloc, &mut post)
-}
-
-#[test]
-fn dir_post_puts_the_whole_or_nothing(rt: HostRuntime) -> Result<(), Fail> {
-    let ended = "Ok(()) None new bytes/-";
-    let failed = "Err(Failed) Some(Other) old/-";
-    // calls of a put: make, write, sync, rename, sync of the name
-    let cases = [
-        (1, OTHER, 99, failed),
-        (2, OTHER, 99, failed),
-        (3, OTHER, 99, failed),
-        (4, OTHER, 99, failed),
-        (5, OTHER, 99, "Err(Failed) Some(Other) new bytes unnamed/-"),
-        (6, OTHER, 99, ended),
-        (1, CallError::Taken, 99, ended),
-        (2, CallError::Interrupted, 99, ended),
-        (4, CallError::Interrupted, 2, ended),
-        (4, OTHER, 2, failed),
-        (
-            2,
-            CallError::Memory,
-            99,
-            "Err(Memory) Some(OutOfMemory) old/-",
-        ),
-    ];
-    for (call, error, most, want) in cases {
-        let told = put_with(rt.alloc(), &[Failing { call, error }], most)?;
-        assert_eq!(rt; told.as_str(), want, "{error} at call {call}");
-    }
-    let left = put_with(
-        rt.alloc(),
-        &[
-            Failing {
-                call: 4,
-                error: OTHER,
-            },
-            Failing {
-                call: 5,
-                error: OTHER,
-            },
-        ],
-        99,
-    )?;
-    assert_eq!(rt;
-        left.as_str(),
-        "Err(Failed) Some(Other) old/new bytes unnamed"
-    );
-    Ok(())
-}
-
-#[test]
-fn dir_post_hides_no_failure(rt: HostRuntime) -> Result<(), Fail> {
-    let all = "a=3;b=5; othe other - - !";
-    // calls: list, open, read, open, read, read, open, list, open
-    let cases = [
-        (1, OTHER, 99, "! othe other - - !"),
-        (2, OTHER, 99, "a=3;b=5; ! other - - !"),
-        (3, OTHER, 99, "a=3;b=5; ! other - - !"),
-        (3, CallError::Interrupted, 99, all),
-        (4, OTHER, 1, "a=3;b=5; ! other - - !"),
-        (99, OTHER, 1, all),
-        (99, OTHER, 99, all),
-    ];
-    for (call, error, most, want) in cases {
-        let told = look_with(rt.alloc(), &[Failing { call, error }], most)?;
-        assert_eq!(rt; told.as_str(), want, "{error} at call {call}");
-    }
-    Ok(())
 }
 
 fn draw<E: Entropy>(source: &mut E, seed: &mut [u8; 32]) -> Result<(), MailError> {
@@ -301,10 +210,10 @@ fn draw<E: Entropy>(source: &mut E, seed: &mut [u8; 32]) -> Result<(), MailError
 
 /// What a draw of a seed answers, the kind of its failure, how often the device was opened, and whether the seed is the
 /// device's first 32 bytes.
-fn draw_with(alloc: Global, length: u8, failing: &[Failing], most: usize) -> Result<String, Fail> {
+fn draw_with(alloc: Global, length: u8, calls: Calls) -> Result<String, Fail> {
     let bytes: Vec<u8> = (0..length).collect(alloc)?;
-    let calls = MemRandom::new(alloc, &bytes, failing, most)?;
-    let mut source = DeviceEntropy::new(calls);
+    let random = MemRandom::new(alloc, &bytes, calls.failing, calls.error, calls.most)?;
+    let mut source = DeviceEntropy::new(random);
     let mut seed = [0; 32];
     let answer = draw(&mut source, &mut seed);
     let reason = source.reason();
@@ -313,65 +222,17 @@ fn draw_with(alloc: Global, length: u8, failing: &[Failing], most: usize) -> Res
     Ok(format!(in alloc; "{answer:?} {reason:?} {opened} {is_first}")?)
 }
 
-#[test]
-fn device_entropy_gives_all_bytes_or_fails(rt: HostRuntime) -> Result<(), Fail> {
-    let ended = "Ok(()) None 1 true";
-    let failed = "Err(Failed) Some(Other) 1 false";
-    let cases = [
-        (40, 1, OTHER, 99, failed),
-        (40, 2, OTHER, 99, failed),
-        (40, 3, OTHER, 99, ended),
-        (40, 3, OTHER, 31, failed),
-        (40, 5, CallError::Interrupted, 8, ended),
-        (32, 9, OTHER, 1, failed),
-        (32, 99, OTHER, 1, ended),
-        (31, 99, OTHER, 9, "Err(Failed) Some(UnexpectedEof) 1 false"),
-        (
-            40,
-            1,
-            CallError::Memory,
-            99,
-            "Err(Memory) Some(OutOfMemory) 1 false",
-        ),
-    ];
-    for (length, call, error, most, want) in cases {
-        let told = draw_with(rt.alloc(), length, &[Failing { call, error }], most)?;
-        assert_eq!(rt;
-            told.as_str(),
-            want,
-            "{error} at call {call} of {length} bytes"
-        );
-    }
-    Ok(())
-}
-
 fn write_new<S: Sink>(sink: &mut S) -> Result<(), MailError> {
     sink.write(b"new bytes")
 }
 
 /// What a write of nine bytes answers, the kind of its failure, and what was written.
-fn write_with(alloc: Global, failing: &[Failing], most: usize) -> Result<String, Fail> {
-    let mut sink = OutSink::new(MemOutput::new(alloc, failing, most)?);
+fn write_with(alloc: Global, calls: Calls) -> Result<String, Fail> {
+    let mut sink = OutSink::new(MemOutput::new(alloc, calls.failing, calls.error, calls.most)?);
     let answer = write_new(&mut sink);
     let reason = sink.reason();
     let written = str::from_utf8(sink.calls().bytes())?;
     Ok(format!(in alloc; "{answer:?} {reason:?} {written}")?)
-}
-
-#[test]
-fn out_sink_writes_all_or_fails(rt: HostRuntime) -> Result<(), Fail> {
-    let cases = [
-        (1, OTHER, 99, "Err(Failed) Some(Other) "),
-        (2, OTHER, 99, "Ok(()) None new bytes"),
-        (2, OTHER, 4, "Err(Failed) Some(Other) new "),
-        (2, CallError::Interrupted, 4, "Ok(()) None new bytes"),
-        (1, CallError::Memory, 99, "Err(Memory) Some(OutOfMemory) "),
-    ];
-    for (call, error, most, want) in cases {
-        let told = write_with(rt.alloc(), &[Failing { call, error }], most)?;
-        assert_eq!(rt; told.as_str(), want, "{error} at call {call}");
-    }
-    Ok(())
 }
 
 const FOLDER: &str = "dir_post_test";
@@ -407,16 +268,6 @@ fn real_folder(rt: &HostRuntime) -> Result<String, Fail> {
     Ok(format!(in alloc; "{missing}/{told}/{refused}/{count}")?)
 }
 
-#[test]
-fn dir_post_is_a_folder(rt: HostRuntime) -> Result<(), Fail> {
-    let told = real_folder(&rt)?;
-    assert_eq!(rt;
-        told.as_str(),
-        "true true true true true true/a=5;b=10; first  second second one - -/false false false true true true/4"
-    );
-    Ok(())
-}
-
 fn draws(rt: &HostRuntime) -> Result<bool, Fail> {
     let mut source = DeviceEntropy::new(RealRandom::new(rt.clone()?));
     let mut first = [0; 32];
@@ -426,8 +277,194 @@ fn draws(rt: &HostRuntime) -> Result<bool, Fail> {
     Ok(first != [0; 32] && second != [0; 32] && first != second)
 }
 
+/// A device, and what is done with it.
+#[derive(Clone, Copy, Debug)]
+enum Device {
+    /// Four calls of a folder in memory, and a listing.
+    MemPost,
+    /// A put over a file.
+    Put,
+    /// A listing and five reads.
+    Look,
+    /// A seed of a device that has so many bytes.
+    Random(u8),
+    /// A write of nine bytes.
+    Output,
+}
+
+fn seen(alloc: Global, device: Device, calls: Calls) -> Result<String, Fail> {
+    match device {
+        Device::MemPost => planned_post(alloc, calls.failing),
+        Device::Put => put_with(alloc, calls),
+        Device::Look => look_with(alloc, calls),
+        Device::Random(length) => draw_with(alloc, length, calls),
+        Device::Output => write_with(alloc, calls),
+    }
+}
+
+/// What is done, the calls that are to fail, their error, how many bytes a call moves at most, and what is seen.
+type Case = (Device, &'static [u32], CallError, usize, &'static str);
+
+const INTERRUPTED: CallError = CallError::Interrupted;
+
+const PUT: &str = "Ok(()) None new bytes/-";
+
+const NOT_PUT: &str = "Err(Failed) Some(Other) old/-";
+
+const LOOKED: &str = "a=3;b=5; othe other - - !";
+
+const NO_READ: &str = "a=3;b=5; ! other - - !";
+
+const DRAWN: &str = "Ok(()) None 1 true";
+
+const NOT_DRAWN: &str = "Err(Failed) Some(Other) 1 false";
+
+// calls of a put: make, write, sync, rename, sync of the name; of a look: list, open, read, open, read, read, open,
+// find the folder, open; of a draw: open, read
+const CASES: [Case; 38] = [
+    (
+        Device::MemPost,
+        &[1],
+        OTHER,
+        0,
+        "true false false false a!b b=1;",
+    ),
+    (
+        Device::MemPost,
+        &[2],
+        OTHER,
+        0,
+        "false true false false a b a=1;b=1;",
+    ),
+    (
+        Device::MemPost,
+        &[3],
+        OTHER,
+        0,
+        "false false true false a b a=1;b=1;",
+    ),
+    (
+        Device::MemPost,
+        &[4],
+        OTHER,
+        0,
+        "false false false true a b!a=1;",
+    ),
+    (Device::Put, &[1], OTHER, 99, NOT_PUT),
+    (Device::Put, &[2], OTHER, 99, NOT_PUT),
+    (Device::Put, &[3], OTHER, 99, NOT_PUT),
+    (Device::Put, &[4], OTHER, 99, NOT_PUT),
+    (
+        Device::Put,
+        &[5],
+        OTHER,
+        99,
+        "Err(Failed) Some(Other) new bytes unnamed/-",
+    ),
+    (Device::Put, &[6], OTHER, 99, PUT),
+    (Device::Put, &[1], CallError::Taken, 99, PUT),
+    (Device::Put, &[2], INTERRUPTED, 99, PUT),
+    (Device::Put, &[3], INTERRUPTED, 99, PUT),
+    (Device::Put, &[4], INTERRUPTED, 2, PUT),
+    (Device::Put, &[4], OTHER, 2, NOT_PUT),
+    (
+        Device::Put,
+        &[2],
+        CallError::Memory,
+        99,
+        "Err(Memory) Some(OutOfMemory) old/-",
+    ),
+    (
+        Device::Put,
+        &[4, 5],
+        OTHER,
+        99,
+        "Err(Failed) Some(Other) old/new bytes unnamed",
+    ),
+    (Device::Look, &[1], OTHER, 99, "! othe other - - !"),
+    (Device::Look, &[2], OTHER, 99, NO_READ),
+    (Device::Look, &[3], OTHER, 99, NO_READ),
+    (Device::Look, &[3], INTERRUPTED, 99, LOOKED),
+    (Device::Look, &[4], OTHER, 1, NO_READ),
+    (Device::Look, &[99], OTHER, 1, LOOKED),
+    (Device::Look, &[99], OTHER, 99, LOOKED),
+    (Device::Random(40), &[1], OTHER, 99, NOT_DRAWN),
+    (Device::Random(40), &[2], OTHER, 99, NOT_DRAWN),
+    (Device::Random(40), &[3], OTHER, 99, DRAWN),
+    (Device::Random(40), &[3], OTHER, 31, NOT_DRAWN),
+    (Device::Random(40), &[5], INTERRUPTED, 8, DRAWN),
+    (Device::Random(32), &[9], OTHER, 1, NOT_DRAWN),
+    (Device::Random(32), &[99], OTHER, 1, DRAWN),
+    (
+        Device::Random(31),
+        &[99],
+        OTHER,
+        9,
+        "Err(Failed) Some(UnexpectedEof) 1 false",
+    ),
+    (
+        Device::Random(40),
+        &[1],
+        CallError::Memory,
+        99,
+        "Err(Memory) Some(OutOfMemory) 1 false",
+    ),
+    (Device::Output, &[1], OTHER, 99, "Err(Failed) Some(Other) "),
+    (Device::Output, &[2], OTHER, 99, "Ok(()) None new bytes"),
+    (
+        Device::Output,
+        &[2],
+        OTHER,
+        4,
+        "Err(Failed) Some(Other) new ",
+    ),
+    (
+        Device::Output,
+        &[2],
+        INTERRUPTED,
+        4,
+        "Ok(()) None new bytes",
+    ),
+    (
+        Device::Output,
+        &[1],
+        CallError::Memory,
+        99,
+        "Err(Memory) Some(OutOfMemory) ",
+    ),
+];
+
 #[test]
-fn device_entropy_draws(rt: HostRuntime) -> Result<(), Fail> {
+fn devices_answer_as_their_calls_do(rt: HostRuntime) -> Result<(), Fail> {
+    for (device, failing, error, most, want) in CASES {
+        let calls = Calls {
+            failing,
+            error,
+            most,
+        };
+        let told = seen(rt.alloc(), device, calls)?;
+        assert_eq!(rt; told.as_str(), want, "{device:?}, {error} at {failing:?}");
+    }
+    Ok(())
+}
+
+#[test]
+fn devices_keep_what_they_are_given(rt: HostRuntime) -> Result<(), Fail> {
+    let rows = [
+        (
+            mem_post(rt.alloc())?,
+            "a=5;b=10; first  second second one - -/b a b ",
+        ),
+        (seeds(rt.alloc())?, "true 1;false 1;true 2;false 2;4"),
+        (sunk(rt.alloc())?, "one three"),
+        (
+            real_folder(&rt)?,
+            "true true true true true true/a=5;b=10; first  second second one - -/false false false true true true/4",
+        ),
+    ];
+    for (told, want) in rows.iter() {
+        assert_eq!(rt; told.as_str(), *want);
+    }
     assert!(rt; draws(&rt)?);
     Ok(())
 }

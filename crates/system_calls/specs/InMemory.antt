@@ -2,6 +2,7 @@
 use Rattle.std.specs.Prelude.{ℕ, Bool, Option, None, List}
 use Rattle.system_calls.specs.MemFiles.{all_changed}
 use Rattle.system_calls.specs.declared.stored.StoredFile.{StoredFile}
+use Rattle.system_calls.specs.Plan.{failures_in}
 use Rattle.system_calls.specs.declared.mem_files.MemFile.{MemFile}
 use Rattle.system_calls.specs.declared.mem_files.MemFiles.{MemFiles}
 
@@ -11,7 +12,7 @@ file_in files path = all_changed path None files.changes.items
 
 -- how many calls have failed
 abbrev pub failures_of : MemFiles → ℕ
-failures_of files = files.plan.failures
+failures_of files = failures_in files.plan
 
 -- the path of an open file
 abbrev pub path_of : MemFile → List ℕ

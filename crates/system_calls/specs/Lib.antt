@@ -1,6 +1,7 @@
 pub mod Errors
 pub mod Stored
 pub mod MemFiles
+pub mod Plan
 pub mod InMemory
 pub mod Rows
 pub mod Machine

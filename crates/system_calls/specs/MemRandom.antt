@@ -1,5 +1,6 @@
 -- What random bytes in memory show.
 use Rattle.std.specs.Prelude.{ℕ, List, drop}
+use Rattle.system_calls.specs.Plan.{failures_in}
 use Rattle.system_calls.specs.declared.random.MemRandom.{MemRandom}
 
 -- the bytes that they have yet to give, in order
@@ -12,4 +13,4 @@ openings_of random = random.openings
 
 -- how many calls have failed
 abbrev pub failures_of : MemRandom → ℕ
-failures_of random = random.plan.failures
+failures_of random = failures_in random.plan

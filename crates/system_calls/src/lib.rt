@@ -23,7 +23,7 @@ pub use error::CallError;
 pub use file_calls::FileCalls;
 pub use mem_files::{MemFile, MemFiles};
 pub use output::{MemOutput, OutputCalls};
-pub use plan::Failing;
+pub use plan::Plan;
 pub use random::{MemDevice, MemRandom, RandomCalls};
 pub use real_files::RealFiles;
 pub use real_output::RealOutput;

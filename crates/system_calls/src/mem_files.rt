@@ -13,8 +13,7 @@ ghost use Rattle.system_calls.specs.MemFiles.{all_changed};
 
 use crate::changes::{Change, look, move_to, name, put, take_away};
 use crate::listing::list_folder;
-use crate::plan::Plan;
-use crate::{CallError, Failing, FileCalls, FolderEntry, StoredFile};
+use crate::{CallError, FileCalls, FolderEntry, Plan, StoredFile};
 use group_fields::{Bytes, Memory, Text};
 use std::alloc::{AllocError, Global};
 use std::collections::BTreeMap;
@@ -34,6 +33,7 @@ pub struct MemFiles {
     alloc: Global,
     changes: Vec<Change>,
     plan: Plan,
+    error: CallError,
     most: usize,
 }
 
@@ -67,9 +67,14 @@ fn read_some(bytes: &[u8], at: u64, most: usize, into: &mut [u8]) -> usize
 impl MemFiles {
     ghost use Rattle.system_calls.specs.InMemory.{file_in, failures_of, path_of, is_locked};
 
-    /// No file yet. Each call of the plan fails as it says, and one read or write moves at most so many bytes, but
-    /// for one.
-    pub fn new(alloc: Global, failing: &[Failing], most: usize) -> Result<MemFiles, Memory>
+    /// No file yet. The calls of these numbers, from 1, are to fail with the error, and one read or write moves at most
+    /// so many bytes, but for one.
+    pub fn new(
+        alloc: Global,
+        failing: &[u32],
+        error: CallError,
+        most: usize,
+    ) -> Result<MemFiles, Memory>
         ensures empty { IfOk result (λ files. (path : List ℕ) → file_in files path ≡ None) }
         ensures failures { IfOk result (λ files. failures_of files ≡ 0) }
     {
@@ -77,6 +82,7 @@ impl MemFiles {
             alloc,
             changes: Vec::new(alloc),
             plan: Plan::new(alloc, failing)?,
+            error,
             most,
         })
     }
@@ -270,27 +276,27 @@ impl FileCalls for MemFiles {
     ghost failures = { failures_of };
 
     fn open(&mut self, path: &str) -> Result<Option<MemFile>, CallError> {
-        self.plan.begin()?;
+        self.plan.begin_call(self.error)?;
         let outcome = self.open_file(path);
-        self.plan.end(outcome)
+        self.plan.end_call(outcome)
     }
 
     fn make(&mut self, path: &str, is_private: bool) -> Result<MemFile, CallError> {
-        self.plan.begin()?;
+        self.plan.begin_call(self.error)?;
         let outcome = self.make_file(path, is_private);
-        self.plan.end(outcome)
+        self.plan.end_call(outcome)
     }
 
     fn lock(&mut self, file: &mut MemFile) -> Result<(), CallError> {
-        self.plan.begin()?;
+        self.plan.begin_call(self.error)?;
         file.is_locked = true;
         Ok(())
     }
 
     fn len(&mut self, file: &mut MemFile) -> Result<u64, CallError> {
-        self.plan.begin()?;
+        self.plan.begin_call(self.error)?;
         let outcome = self.file_len(file.path.as_str());
-        self.plan.end(outcome)
+        self.plan.end_call(outcome)
     }
 
     fn read_at(
@@ -299,49 +305,49 @@ impl FileCalls for MemFiles {
         at: u64,
         into: &mut [u8],
     ) -> Result<usize, CallError> {
-        self.plan.begin()?;
+        self.plan.begin_call(self.error)?;
         let outcome = self.read_file(file.path.as_str(), at, into);
-        self.plan.end(outcome)
+        self.plan.end_call(outcome)
     }
 
     fn write_at(&mut self, file: &mut MemFile, at: u64, bytes: &[u8]) -> Result<usize, CallError> {
-        self.plan.begin()?;
+        self.plan.begin_call(self.error)?;
         let outcome = self.write_file(file.path.as_str(), at, bytes);
-        self.plan.end(outcome)
+        self.plan.end_call(outcome)
     }
 
     fn sync(&mut self, file: &mut MemFile) -> Result<(), CallError> {
-        self.plan.begin()?;
+        self.plan.begin_call(self.error)?;
         let outcome = self.sync_file(file.path.as_str());
-        self.plan.end(outcome)
+        self.plan.end_call(outcome)
     }
 
     fn sync_name(&mut self, path: &str) -> Result<(), CallError> {
-        self.plan.begin()?;
+        self.plan.begin_call(self.error)?;
         let outcome = self.sync_name_of(path);
-        self.plan.end(outcome)
+        self.plan.end_call(outcome)
     }
 
     fn rename(&mut self, from: &str, to: &str) -> Result<(), CallError> {
-        self.plan.begin()?;
+        self.plan.begin_call(self.error)?;
         let outcome = self.rename_file(from, to);
-        self.plan.end(outcome)
+        self.plan.end_call(outcome)
     }
 
     fn remove(&mut self, path: &str) -> Result<(), CallError> {
-        self.plan.begin()?;
+        self.plan.begin_call(self.error)?;
         let outcome = self.remove_file(path);
-        self.plan.end(outcome)
+        self.plan.end_call(outcome)
     }
 
     fn find_folder(&mut self, _folder: &str) -> Result<(), CallError> {
-        self.plan.begin()?;
+        self.plan.begin_call(self.error)?;
         Ok(())
     }
 
     fn list(&mut self, folder: &str) -> Result<BTreeMap<String, FolderEntry>, CallError> {
-        self.plan.begin()?;
+        self.plan.begin_call(self.error)?;
         let outcome = list_folder(self.alloc, &self.changes, folder);
-        self.plan.end(outcome)
+        self.plan.end_call(outcome)
     }
 }

@@ -4,8 +4,7 @@ ghost use Rattle.system_calls.specs.Errors.{CountsFailure};
 ghost use Rattle.system_calls.specs.LastFailure.{TellsLast};
 
 use crate::last::told_last;
-use crate::plan::Plan;
-use crate::{CallError, Failing};
+use crate::{CallError, Plan};
 use group_fields::Memory;
 use std::alloc::Global;
 
@@ -39,6 +38,7 @@ pub trait OutputCalls {
 pub struct MemOutput {
     bytes: Vec<u8>,
     plan: Plan,
+    error: CallError,
     last: Option<CallError>,
     most: usize,
 }
@@ -46,14 +46,21 @@ pub struct MemOutput {
 impl MemOutput {
     ghost use Rattle.system_calls.specs.MemOutput.{bytes_of, failures_of};
 
-    /// Nothing is written yet. The calls of the plan fail, and one write takes at most so many bytes, but for one.
-    pub fn new(alloc: Global, failing: &[Failing], most: usize) -> Result<MemOutput, Memory>
+    /// Nothing is written yet. The calls of these numbers, from 1, are to fail with the error, and one write takes at
+    /// most so many bytes, but for one.
+    pub fn new(
+        alloc: Global,
+        failing: &[u32],
+        error: CallError,
+        most: usize,
+    ) -> Result<MemOutput, Memory>
         ensures written { IfOk result (λ output. bytes_of output ≡ []) }
         ensures failures { IfOk result (λ output. failures_of output ≡ 0) }
     {
         Ok(MemOutput {
             bytes: Vec::new(alloc),
             plan: Plan::new(alloc, failing)?,
+            error,
             last: None,
             most,
         })
@@ -74,11 +81,11 @@ impl MemOutput {
         ensures failures { CountsFailure (failures_of self.old) (failures_of self.new) result }
         ensures last { self.new.last ≡ self.old.last }
     {
-        self.plan.begin()?;
+        self.plan.begin_call(self.error)?;
         let count = bytes.len().min(self.most.max(1));
         let taken = self.bytes.extend_from_slice(&bytes[..count]);
         self.plan
-            .end(taken.map(|()| count).map_err(CallError::from))
+            .end_call(taken.map(|()| count).map_err(CallError::from))
     }
 }
 

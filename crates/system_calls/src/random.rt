@@ -5,8 +5,7 @@ ghost use Rattle.system_calls.specs.Errors.{CountsFailure};
 ghost use Rattle.system_calls.specs.LastFailure.{TellsLast};
 
 use crate::last::told_last;
-use crate::plan::Plan;
-use crate::{CallError, Failing};
+use crate::{CallError, Plan};
 use group_fields::Memory;
 use std::alloc::Global;
 
@@ -60,6 +59,7 @@ pub struct MemRandom {
     next: usize,
     openings: u64,
     plan: Plan,
+    error: CallError,
     last: Option<CallError>,
     most: usize,
 }
@@ -81,12 +81,13 @@ fn copy_front(bytes: &[u8], next: usize, most: usize, into: &mut [u8]) -> usize
 impl MemRandom {
     ghost use Rattle.system_calls.specs.MemRandom.{bytes_to_come, openings_of, failures_of};
 
-    /// Gives these bytes in order, and then ends. The calls of the plan fail, and one read gives at most so many bytes,
-    /// but for one.
+    /// Gives these bytes in order, and then ends. The calls of the numbers in `failing`, from 1, are to fail with the
+    /// error, and one read gives at most so many bytes, but for one.
     pub fn new(
         alloc: Global,
         bytes: &[u8],
-        failing: &[Failing],
+        failing: &[u32],
+        error: CallError,
         most: usize,
     ) -> Result<MemRandom, Memory>
         ensures to_come { IfOk result (λ random. bytes_to_come random ≡ bytes.now) }
@@ -98,6 +99,7 @@ impl MemRandom {
             next: 0,
             openings: 0,
             plan: Plan::new(alloc, failing)?,
+            error,
             last: None,
             most,
         })
@@ -119,7 +121,7 @@ impl MemRandom {
         ensures failures { CountsFailure (failures_of self.old) (failures_of self.new) result }
         ensures last { self.new.last ≡ self.old.last }
     {
-        self.plan.begin()?;
+        self.plan.begin_call(self.error)?;
         let count = copy_front(&self.bytes, self.next, self.most, into);
         self.next += count;
         Ok(count)
@@ -143,7 +145,7 @@ impl RandomCalls for MemRandom {
 
     fn open(&mut self) -> Result<MemDevice, CallError> {
         self.openings = self.openings.saturating_add(1);
-        let opened = self.plan.begin().map(|()| MemDevice {});
+        let opened = self.plan.begin_call(self.error).map(|()| MemDevice {});
         told_last(&mut self.last, opened)
     }
 

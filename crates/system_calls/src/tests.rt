@@ -13,6 +13,8 @@ const FIRST: &str = "system_calls_files/first";
 
 const SECOND: &str = "system_calls_files/second";
 
+const FULL: CallError = CallError::Failed(ErrorKind::StorageFull);
+
 fn rows<C: FileCalls>(calls: &mut C, alloc: Global) -> Result<String, CallError> {
     let mut text = String::new(alloc);
     for (name, row) in calls.list(FOLDER)? {
@@ -78,7 +80,7 @@ fn folder(alloc: Global) -> StoredFile {
 
 #[test]
 fn both_forms_tell_the_same(rt: HostRuntime) -> Result<(), Fail> {
-    let mut memory = MemFiles::new(rt.alloc(), &[], usize::MAX)?;
+    let mut memory = MemFiles::new(rt.alloc(), &[], FULL, usize::MAX)?;
     memory.place(FOLDER, folder(rt.alloc()))?;
     assert_eq!(rt; told_by(&mut memory, rt.alloc())?.as_str(), TOLD);
 
@@ -149,12 +151,8 @@ fn a_name_lies_in_its_folder(rt: HostRuntime) {
 }
 
 /// How a write and a read of four bytes go in memory, where one moves at most two and the call of a number fails.
-fn short_calls(alloc: Global, call: u64) -> Result<(usize, usize), CallError> {
-    let failing = Failing {
-        call,
-        error: CallError::Failed(ErrorKind::StorageFull),
-    };
-    let mut memory = MemFiles::new(alloc, &[failing], 2)?;
+fn short_calls(alloc: Global, call: u32) -> Result<(usize, usize), CallError> {
+    let mut memory = MemFiles::new(alloc, &[call], FULL, 2)?;
     let mut file = memory.make("a", false)?;
     let written = memory.write_at(&mut file, 0, b"abcd")?;
     let read = memory.read_at(&mut file, 1, &mut [0; 4])?;
@@ -165,11 +163,7 @@ fn short_calls(alloc: Global, call: u64) -> Result<(usize, usize), CallError> {
 fn planned_calls_fail_and_others_are_short(rt: HostRuntime) -> Result<(), Fail> {
     for call in 1..4 {
         let answer = short_calls(rt.alloc(), call);
-        assert_eq!(rt;
-            answer,
-            Err(CallError::Failed(ErrorKind::StorageFull)),
-            "call {call}"
-        );
+        assert_eq!(rt; answer, Err(FULL), "call {call}");
     }
     assert_eq!(rt; short_calls(rt.alloc(), 4), Ok((2, 1)));
     Ok(())
