@@ -1,4 +1,4 @@
-use Rattle.std.proofs.Common.{◌≡◌, ◌∙◌, ◌++◌, ◌+◌, take, drop, sym, ap, take-append-drop}
+use Rattle.std.proofs.Common.{◌≡◌, ◌∙◌, ◌++◌, take, drop, sym, ap, take-append-drop}
 use Rattle.std.proofs.lemmas.List.{drop-drop}
 use Rattle.system_calls.proofs.random.MemRandom.give.Goals as goal
 
