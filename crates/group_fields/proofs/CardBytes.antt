@@ -1,15 +1,17 @@
 -- The spelling of a card that has one.
-use Rattle.std.proofs.Common.{◌≡◌, ◌⊎◌, ℕ, ◌+◌, ◌<◌, ◌≤◌, IsTrue, ◌==◌, ◌&&◌, ◌||◌, true, List, [], ◌∷◌, ◌++◌, length, take, drop, refl, ap, sym, subst, ◌∙◌, arith, inl, inr, ⊎_elim, append_assoc}
+use Rattle.std.proofs.Common.{◌≡◌, ◌⊎◌, ℕ, ◌<◌, IsTrue, ◌==◌, ◌&&◌, ◌||◌, true, List, [], ◌∷◌, ◌++◌, length, take, drop, refl, ap, sym, subst, arith, ⊎_elim}
 use Rattle.std.proofs.lemmas.Bool.Decides.{nat_tests}
 use Rattle.std.proofs.lemmas.List.{length-drop, length-take, take-append-drop}
-use Rattle.std.specs.Int.{w8, w32, from_be_bytes, to_be_bytes}
+use Rattle.std.specs.Int.{w8, w32, from_be_bytes}
 use Rattle.sha2.specs.Sha256.{sha256}
-use Rattle.group_fields.specs.Cards.{HasSpelling, Spells, card, card_id, card_of_sets, key_size, least_lms_type, lms_public, lms_type, one_time_type, spelling}
-use Rattle.group_fields.specs.Fields.{Fills, any_bytes, number_from}
+use Rattle.group_fields.specs.Cards.{HasSpelling, Spells, card, card_id, card_of_sets, key_size, least_lms_type, lms_public, lms_type, spelling}
+use Rattle.group_fields.specs.Fields.{Fills, any_bytes, is_between, number_from}
+use Rattle.group_fields.specs.LayoutWrites.{Appends}
 use Rattle.group_fields.specs.Layouts as layouts
 use Rattle.group_fields.specs.Layouts.{bytes_of, digest, known, number}
 use Rattle.group_fields.specs.declared.card.Card.{Card}
 use Rattle.group_fields.proofs.LayoutLaws.{IsPlain, one_spelling, one_value, written_is}
+use Rattle.group_fields.proofs.WriteSteps.{behind_appended, shaped_appended}
 
 -- bytes that spell a card are its spelling
 pub spelling_is : (value : Card) (bytes : List ℕ) → Spells value bytes → bytes ≡ spelling value
@@ -28,22 +30,11 @@ one_card_spelling value a b is_a is_b = one_spelling card value a b is_a is_b
 
 -- ---- a card that has a spelling
 
-record IsSetByte (set : ℕ) : Type 0 where
-  pub fills : Fills (number_from w8 1 2) (to_be_bytes w8 set)
-  pub value : set ≡ from_be_bytes w8 (to_be_bytes w8 set)
-  pub byte : to_be_bytes w8 set ≡ set ∷ []
-
 sets : (set : ℕ) → IsTrue ((set == 1) || (set == 2)) → (set ≡ 1) ⊎ (set ≡ 2)
 sets set is = grind (arith, nat_tests)
 
-set_byte : (set : ℕ) → IsTrue ((set == 1) || (set == 2)) → IsSetByte set
-set_byte set is = ⊎_elim one two (sets set is)
-  where
-    one : set ≡ 1 → IsSetByte set
-    one e = subst IsSetByte (sym e) (record { fills = record { size = refl; allowed = refl }; value = refl; byte = refl })
-
-    two : set ≡ 2 → IsSetByte set
-    two e = subst IsSetByte (sym e) (record { fills = record { size = refl; allowed = refl }; value = refl; byte = refl })
+set_between : (set : ℕ) → IsTrue ((set == 1) || (set == 2)) → is_between 1 2 set ≡ true
+set_between set is = ⊎_elim (λ e. ap (is_between 1 2) e) (λ e. ap (is_between 1 2) e) (sets set is)
 
 -- the two types at the front of an LMS public key
 record IsKey (key : List ℕ) (type : ℕ) : Type 0 where
@@ -117,63 +108,32 @@ lms_spelled value has long = ⊎_elim ten five (types value.set (lms_type value)
         subst (λ (k : List ℕ). layouts.Spells (lms_public value.set) k k) (sym key.is)
         (subst (λ (s : ℕ). layouts.Spells (lms_public s) (0 ∷ 0 ∷ 0 ∷ 5 ∷ 0 ∷ 0 ∷ 0 ∷ 3 ∷ key.rest) (0 ∷ 0 ∷ 0 ∷ 5 ∷ 0 ∷ 0 ∷ 0 ∷ 3 ∷ key.rest)) (sym at.0) at_two)
 
--- a card that has a spelling is spelled by it
-pub spelled : (value : Card) → HasSpelling value → length value.lms_public ≡ 56 → length value.inviter.0.0 ≡ 32 → Spells value (spelling value)
-unfolding spelling card_of_sets known number bytes_of digest lms_public
-spelled value has lms_long inviter_long =
-    let set = set_byte value.set has.set in (
-      (tt, (tt, (value.set, (value.lms_public, (value.inviter.0, value.kem_public))))),
-      (
-        0x43 ∷ [],
-        _,
-        refl,
-        (record { size = refl; allowed = refl }, refl),
-        (
-          1 ∷ [],
-          _,
-          refl,
-          (record { size = refl; allowed = refl }, refl),
-          (
-            to_be_bytes w8 value.set,
-            _,
-            refl,
-            (set.fills, set.value),
-            (
-              value.lms_public,
-              _,
-              refl,
-              lms_spelled value has lms_long,
-              (
-                value.inviter.0.0,
-                value.kem_public,
-                refl,
-                (record { size = inviter_long; allowed = refl }, refl),
-                (record { size = has.kem_public; allowed = refl }, refl),
-              ),
-            ),
-          ),
-        ),
-      ),
-      refl,
-      refl,
-    )
-
 -- no part of a card encloses another, so at each place there is one fault at most
 pub card_plain : IsPlain card
 unfolding card_of_sets lms_public known number bytes_of digest
 card_plain =
     (tt, λ tag. (tt, λ version. (tt, λ set. ((tt, λ lms_type. (tt, λ one_time_type. (tt, λ identifier. tt))), λ key. (tt, λ inviter. tt)))))
 
--- what a writer appends, part behind part
-pub appended : (value : Card) (front with_key with_inviter whole : List ℕ) → IsTrue ((value.set == 1) || (value.set == 2))
-    → front ≡ 0x43 ∷ 1 ∷ value.set ∷ [] → with_key ≡ front ++ value.lms_public → with_inviter ≡ with_key ++ value.inviter.0.0
-    → whole ≡ with_inviter ++ value.kem_public → whole ≡ spelling value
-unfolding spelling card_of_sets known number bytes_of digest lms_public
-appended value front with_key with_inviter whole is front_is key_is inviter_is whole_is =
-    let set = set_byte value.set is in
-    let parts : whole ≡ (0x43 ∷ 1 ∷ value.set ∷ []) ++ value.lms_public ++ value.inviter.0.0 ++ value.kem_public =
-    whole_is ∙ ap (λ (l : List ℕ). l ++ value.kem_public) (inviter_is ∙ ap (λ (l : List ℕ). l ++ value.inviter.0.0) (key_is ∙ ap (λ (l : List ℕ). l ++ value.lms_public) front_is)) in
-    let rest : value.lms_public ++ value.inviter.0.0 ++ value.kem_public ≡ value.lms_public ++ (value.inviter.0.0 ++ value.kem_public) =
-    append_assoc value.lms_public value.inviter.0.0 value.kem_public in
-    parts ∙ ap (λ (l : List ℕ). 0x43 ∷ 1 ∷ value.set ∷ l) rest
-    ∙ ap (λ (l : List ℕ). 0x43 ∷ 1 ∷ (l ++ (value.lms_public ++ (value.inviter.0.0 ++ value.kem_public)))) (sym set.byte)
+-- a card that has a spelling, field behind field
+pub fields_appended : (value : Card) (start with_tag with_version with_set with_key with_inviter whole : List ℕ) → HasSpelling value
+    → length value.lms_public ≡ 56 → Appends (known (0x43 ∷ [])) tt start with_tag → Appends (known (1 ∷ [])) tt with_tag with_version
+    → ((least greatest : ℕ) → is_between least greatest value.set ≡ true → Appends (number w8 least greatest) value.set with_version with_set)
+    → with_key ≡ with_set ++ value.lms_public → Appends digest value.inviter.0 with_key with_inviter
+    → Appends (bytes_of (length value.kem_public)) value.kem_public with_inviter whole → Appends card value start whole
+unfolding card_of_sets
+fields_appended value start with_tag with_version with_set with_key with_inviter whole has long tag version set key inviter kem =
+    let lms : Appends (lms_public value.set) value.lms_public with_set with_key =
+    record { back = value.lms_public; whole = key; spelled = lms_spelled value has long } in
+    let kem_sized : Appends (bytes_of (key_size value.set)) value.kem_public with_inviter whole =
+    subst (λ (n : ℕ). Appends (bytes_of n) value.kem_public with_inviter whole) has.kem_public kem in
+    shaped_appended _ _ (tt, (tt, (value.set, (value.lms_public, (value.inviter.0, value.kem_public))))) start whole
+    (behind_appended _ _ tt _ start with_tag whole tag
+    (behind_appended _ _ tt _ with_tag with_version whole version
+    (behind_appended _ _ value.set _ with_version with_set whole (set 1 2 (set_between value.set has.set))
+    (behind_appended _ _ value.lms_public _ with_set with_key whole lms
+    (behind_appended _ _ value.inviter.0 value.kem_public with_key with_inviter whole inviter kem_sized)))))
+    refl
+
+-- what was appended to nothing is spelled
+pub spelled : (value : Card) (bytes : List ℕ) → Appends card value [] bytes → Spells value bytes
+spelled value bytes one = subst (Spells value) (sym one.whole) one.spelled

@@ -4,3 +4,4 @@ pub mod LayoutLaws
 pub mod ReadSteps
 pub mod Shifts
 pub mod WholeReads
+pub mod WriteSteps

@@ -5,6 +5,7 @@ pub mod Counts
 pub mod Fields
 pub mod Ids
 pub mod LayoutReads
+pub mod LayoutWrites
 pub mod Layouts
 pub mod Plan
 pub mod Reading

@@ -5,6 +5,7 @@ ghost use Rattle.group_fields.specs.declared.card.Card.{Card};
 use crate::Memory;
 use crate::bytes::Bytes;
 use crate::ids::MemberId;
+use crate::writers::{append_bytes, append_digest, append_known, append_u8};
 use std::alloc::Global;
 
 pub(crate) const TAG: u8 = 0x43;
@@ -65,10 +66,12 @@ pub fn write_card(alloc: Global, card: &Card) -> Result<Bytes, Memory>
     ensures whole { IfOk result (λ bytes. bytes ≡ spelling card.now) }
 {
     let mut bytes = Vec::new(alloc);
-    bytes.extend_from_slice(&[TAG, VERSION, card.set])?;
-    bytes.extend_from_slice(&card.lms_public)?;
-    bytes.extend_from_slice(&card.inviter.0.0)?;
-    bytes.extend_from_slice(card.kem_public.as_slice())?;
+    append_known(&mut bytes, &[TAG])?;
+    append_known(&mut bytes, &[VERSION])?;
+    append_u8(&mut bytes, card.set)?;
+    append_bytes(&mut bytes, &card.lms_public)?;
+    append_digest(&mut bytes, card.inviter.0)?;
+    append_bytes(&mut bytes, card.kem_public.as_slice())?;
     Ok(Bytes::from(bytes))
 }
 

@@ -113,7 +113,7 @@ pub fn take_digest(cursor: &mut Cursor<'_>) -> Result<Digest, FieldFault>
 }
 
 // Whether an id may stand behind the one before it.
-fn is_above(last: Option<Digest>, bytes: &[u8]) -> bool
+pub(crate) fn is_above(last: Option<Digest>, bytes: &[u8]) -> bool
     ensures { result ≡ is_above last bytes.now }
 {
     match last {

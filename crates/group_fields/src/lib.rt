@@ -15,6 +15,7 @@ mod ids_view;
 #[cfg(test)]
 mod tests;
 mod text;
+mod writers;
 
 pub use bytes::Bytes;
 pub use card::{Card, cards_are_spelled_once, write_card};
@@ -31,6 +32,10 @@ pub use ids::{Digest, GroupId, MemberId, MessageId};
 pub use ids_view::IdsView;
 use std::alloc::AllocError;
 pub use text::Text;
+pub use writers::{
+    append_bytes, append_counted_ids, append_digest, append_ids, append_known, append_u8,
+    append_u16, append_u32, is_ascending,
+};
 
 /// Want of memory: an allocation was refused.
 pub type Memory = AllocError;

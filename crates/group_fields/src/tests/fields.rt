@@ -56,11 +56,42 @@ fn spelled(alloc: Global, place: usize, value: u8) -> Result<Vec<u8>, AllocError
     Ok(bytes)
 }
 
+// The same fields, as the writers append them.
+fn written(alloc: Global) -> Result<Vec<u8>, AllocError> {
+    let mut bytes = Vec::new(alloc);
+    append_known(&mut bytes, b"DC")?;
+    append_u8(&mut bytes, 2)?;
+    append_u16(&mut bytes, 500)?;
+    append_u32(&mut bytes, 70000)?;
+    append_digest(&mut bytes, Digest([7; 32]))?;
+    let ids = [Digest([8; 32]), Digest([9; 32])];
+    if is_ascending(&ids) {
+        append_counted_ids(&mut bytes, &ids)?;
+    }
+    Ok(bytes)
+}
+
+// Two bytes and two ids without their count, where the ids ascend.
+fn written_apart(alloc: Global, first: u8, second: u8) -> Result<Vec<u8>, AllocError> {
+    let mut bytes = Vec::new(alloc);
+    append_bytes(&mut bytes, &[first, second])?;
+    let ids = [Digest([first; 32]), Digest([second; 32])];
+    if is_ascending(&ids) {
+        append_ids(&mut bytes, &ids)?;
+    }
+    Ok(bytes)
+}
+
 #[test]
-fn reads_fields_one_behind_the_other(rt: HostRuntime) -> Result<(), AllocError> {
+fn reads_and_writes_fields_one_behind_the_other(rt: HostRuntime) -> Result<(), AllocError> {
     let alloc = rt.alloc();
     let bytes = spelled(alloc, 0, 0x44)?;
     assert_eq!(rt; bytes.len(), 106);
+    assert_eq!(rt; written(alloc)?, bytes);
+    for (first, second, length) in [(8, 9, 66), (8, 8, 2), (9, 8, 2)] {
+        let bytes = written_apart(alloc, first, second)?;
+        assert_eq!(rt; bytes.len(), length, "ids of {first} and {second}");
+    }
     let want = Fields {
         small: 2,
         middle: 500,

@@ -1,4 +1,4 @@
-use Rattle.std.proofs.Common.{◌≡◌, ap, sym, ◌∙◌, refl, true, List, ℕ}
+use Rattle.std.proofs.Common.{◌≡◌, ap, sym, refl, true, List, ℕ}
 use Rattle.std.proofs.lemmas.Result.{err_from_is_err_and}
 use Rattle.group_fields.specs.Fields.{digest_with}
 use Rattle.group_fields.specs.Layouts.{digest}

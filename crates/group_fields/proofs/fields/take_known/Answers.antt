@@ -1,4 +1,4 @@
-use Rattle.std.proofs.Common.{ap, sym, ◌∙◌, refl, bytes_eq}
+use Rattle.std.proofs.Common.{refl, bytes_eq}
 use Rattle.std.proofs.lemmas.Result.{err_from_is_err_and}
 use Rattle.group_fields.specs.Fields.{known_bytes}
 use Rattle.group_fields.specs.Layouts.{known}
