@@ -1,8 +1,9 @@
 -- The spelling of a card that has one.
-use Rattle.std.proofs.Common.{◌≡◌, ◌⊎◌, ℕ, ◌<◌, IsTrue, ◌==◌, ◌&&◌, ◌||◌, true, List, [], ◌∷◌, ◌++◌, length, take, drop, refl, ap, sym, subst, arith, ⊎_elim}
+use Rattle.std.proofs.Common.{◌≡◌, ◌⊎◌, ℕ, ◌<◌, ◌≤◌, nat_le, bytes_eq, IsTrue, ◌==◌, ◌&&◌, ◌||◌, true, List, [], ◌∷◌, ◌++◌, length, take, drop, refl, ap, sym, subst, arith, ⊎_elim}
+use Rattle.std.proofs.lemmas.Bool.{and_from, and_parts, le-leb, leb-true}
 use Rattle.std.proofs.lemmas.Bool.Decides.{nat_tests}
 use Rattle.std.proofs.lemmas.List.{length-drop, length-take, take-append-drop}
-use Rattle.std.specs.Int.{w8, w32, from_be_bytes}
+use Rattle.std.specs.Int.{w8, w32, from_be_bytes, to_be_bytes}
 use Rattle.sha2.specs.Sha256.{sha256}
 use Rattle.group_fields.specs.Cards.{HasSpelling, Spells, card, card_id, card_of_sets, key_size, least_lms_type, lms_public, lms_type, spelling}
 use Rattle.group_fields.specs.Fields.{Fills, any_bytes, is_between, number_from}
@@ -107,6 +108,23 @@ lms_spelled value has long = ⊎_elim ten five (types value.set (lms_type value)
         key_spelled 2 5 key.rest key.size (record { size = refl; allowed = refl }) refl in
         subst (λ (k : List ℕ). layouts.Spells (lms_public value.set) k k) (sym key.is)
         (subst (λ (s : ℕ). layouts.Spells (lms_public s) (0 ∷ 0 ∷ 0 ∷ 5 ∷ 0 ∷ 0 ∷ 0 ∷ 3 ∷ key.rest) (0 ∷ 0 ∷ 0 ∷ 5 ∷ 0 ∷ 0 ∷ 0 ∷ 3 ∷ key.rest)) (sym at.0) at_two)
+
+-- a card of some sets is a card
+pub of_some_sets : (from to : ℕ) (bytes : List ℕ) (value : Card) → 1 ≤ from → to ≤ 2 → layouts.Spells (card_of_sets from to) bytes value
+    → Spells value bytes
+unfolding card_of_sets number
+of_some_sets from to bytes value low high (fields, (f1, b1, e1, tag, (f2, b2, e2, version, (f3, b3, e3, (fills, is), rest))), fits, renamed) =
+    let both = and_parts (is_between from to (from_be_bytes w8 f3)) (bytes_eq (to_be_bytes w8 (from_be_bytes w8 f3)) f3) fills.allowed in
+    let wider = and_from (is_between 1 2 (from_be_bytes w8 f3)) (bytes_eq (to_be_bytes w8 (from_be_bytes w8 f3)) f3)
+    (within from to (from_be_bytes w8 f3) low high both.0) both.1 in
+    (fields, (f1, b1, e1, tag, (f2, b2, e2, version, (f3, b3, e3, (record { size = fills.size; allowed = wider }, is), rest))), fits, renamed)
+  where
+    within : (from to n : ℕ) → 1 ≤ from → to ≤ 2 → is_between from to n ≡ true → is_between 1 2 n ≡ true
+    within from to n low high is =
+        let both = and_parts (nat_le from n) (nat_le n to) is in
+        let above = leb-true from n both.0 in
+        let below = leb-true n to both.1 in
+        and_from (nat_le 1 n) (nat_le n 2) (le-leb 1 n (omega arith)) (le-leb n 2 (omega arith))
 
 -- no part of a card encloses another, so at each place there is one fault at most
 pub card_plain : IsPlain card

@@ -95,7 +95,7 @@ nothing_behind : (xs : List ℕ) → xs ++ [] ≡ xs
 nothing_behind [] = refl
 nothing_behind (x ∷ xs) = ap (λ (r : List ℕ). x ∷ r) (nothing_behind xs)
 
-before_is : (front back : List ℕ) → before back (front ++ back) ≡ front
+pub before_is : (front back : List ℕ) → before back (front ++ back) ≡ front
 before_is front back = take_at front back (length (front ++ back) - length back) (omega (arith, length-append front back))
 
 pub complete : {A : Type 0} (l : Layout A) (place : ℕ) (front back : List ℕ) (a : A) → Spells l front a

@@ -144,15 +144,36 @@ fn take_parts<'a>(
     })
 }
 
-// The fields of a card, and nothing may be left over.
+/// Takes a card of one of the sets from the least to the greatest, which are 1 or 2. It lends its fields out of its bytes.
+pub fn take_card<'a>(
+    cursor: &mut Cursor<'a>,
+    least: u8,
+    greatest: u8,
+) -> Result<CardView<'a>, FieldFault>
+    requires place { cursor.old.place < 2 ^ 30 }
+    requires least { 1 ≤ least }
+    requires greatest { greatest ≤ 2 }
+    ensures takes { Takes (λ card. card) (card_of_sets least greatest) cursor.old cursor.new result }
+    ensures moved { OnOk result (cursor.new.place ≤ cursor.old.place + 1249) }
+{
+    let from = cursor.place();
+    let parts = take_parts(cursor, least, greatest)?;
+    let _end = cursor.place();
+    Ok(CardView {
+        bytes: cursor.since(from),
+        parts,
+    })
+}
+
+// A card, and nothing may be left over.
 #[tactic(auto, using(crate::proofs::WholeReads::whole_end, crate::proofs::WholeReads::whole_stop))]
-fn read_parts(bytes: &[u8]) -> Result<CardParts<'_>, FieldFault>
-    ensures { read_whole card 0 bytes.now ≡ whole_seen card_of result }
+fn read_whole_card(bytes: &[u8]) -> Result<CardView<'_>, FieldFault>
+    ensures { read_whole card 0 bytes.now ≡ whole_seen (λ card. card) result }
 {
     let mut cursor = Cursor::new(bytes);
-    let parts = take_parts(&mut cursor, 1, 2)?;
+    let card = take_card(&mut cursor, 1, 2)?;
     end(&mut cursor)?;
-    Ok(parts)
+    Ok(card)
 }
 
 /// The card that the bytes spell, all of them. It lends its fields out of them.
@@ -170,6 +191,5 @@ pub fn read_card(bytes: &[u8]) -> Result<CardView<'_>, FieldFault>
     ensures refused { IfErr result (λ fault. IsCardFault bytes.now fault) }
     ensures least { (fault : FieldFault) → IsCardFault bytes.now fault → result ≡ Err fault }
 {
-    let parts = read_parts(bytes)?;
-    Ok(CardView { bytes, parts })
+    read_whole_card(bytes)
 }

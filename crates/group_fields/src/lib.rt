@@ -19,7 +19,7 @@ mod writers;
 
 pub use bytes::Bytes;
 pub use card::{Card, cards_are_spelled_once, write_card};
-pub use card_view::{CardView, read_card};
+pub use card_view::{CardView, read_card, take_card};
 pub use cards::Cards;
 pub use counts::Counts;
 pub use cursor::Cursor;

@@ -66,6 +66,18 @@ fn id_of(bytes: &[u8]) -> Option<MemberId> {
     if lent { Some(card.id()) } else { None }
 }
 
+// The id of a card at the front, and the place behind it.
+fn taken(bytes: &[u8]) -> Result<(MemberId, usize), FieldFault> {
+    let mut cursor = Cursor::new(bytes);
+    let card = take_card(&mut cursor, 1, 2)?;
+    Ok((card.id(), cursor.place()))
+}
+
+// The fault at the front where a card of set 2 is wanted.
+fn fault_of_set_2(bytes: &[u8]) -> Option<FieldFault> {
+    take_card(&mut Cursor::new(bytes), 2, 2).err()
+}
+
 // A card that was read, kept in a list and written again.
 fn written_again(alloc: Global, bytes: &[u8]) -> Result<Option<Bytes>, AllocError> {
     let mut cards = Cards::new(alloc);
@@ -106,11 +118,19 @@ fn has_spelling(
 fn reads_and_writes_cards_of_both_sets(rt: HostRuntime) -> Result<(), Fail> {
     let alloc = rt.alloc();
     for (set, lms_type, length, id) in CASES {
-        let bytes = spelled(alloc, set, lms_type, length)?;
+        let mut bytes = spelled(alloc, set, lms_type, length)?;
+        let fault = if set == 2 {
+            None
+        } else {
+            Some(FieldFault::Range(2))
+        };
         assert_eq!(rt; bytes.len(), length);
+        assert_eq!(rt; fault_of_set_2(&bytes), fault);
         assert_eq!(rt; id_of(&bytes), Some(MemberId(Digest(id))));
         let again = written_again(alloc, &bytes)?.ok_or("the bytes are a card")?;
         assert_eq!(rt; again.as_slice(), bytes.as_slice());
+        bytes.push(0x43)?;
+        assert_eq!(rt; taken(&bytes), Ok((MemberId(Digest(id)), length)));
     }
     Ok(())
 }
