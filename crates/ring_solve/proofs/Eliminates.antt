@@ -10,7 +10,8 @@ use Rattle.ring_poly.specs.Ring.{IsCongruent, weighted}
 use Rattle.ring_poly.proofs.Integers.{mul_swap, mul-add, add-mul}
 use Rattle.ring_poly.proofs.Weighted.{weighted-same, weighted-add}
 use Rattle.ring_poly.proofs.Congruences.{IsCongruent-same, IsCongruent-back, IsCongruent-then, IsCongruent-add, IsCongruent-mul, IsCongruent-onto, neg-mul}
-use Rattle.ring_solve.specs.Elimination.{numbers_from, Vanishes, VanishesAtEach, IsBasis}
+use Rattle.ring_solve.specs.Elimination.{numbers_from, Vanishes, VanishesAtEach, IsBasis, IsKeptRow}
+use Rattle.ring_solve.specs.Steps.{IsZeroAt, IsUnreduced, Replaces}
 use Rattle.ring_solve.proofs.Residues.{congruent_by, rest_congruent, times_congruent}
 
 pub weighted_congruent : (m : ℤ) (a : List ℤ) (g h : ℕ → ℤ) → ((j : ℕ) → j < length a → IsCongruent m (g j) (h j)) → IsCongruent m (weighted a g) (weighted a h)
@@ -101,22 +102,17 @@ scaled_back m lead s x h =
     (IsCongruent-then (pos m) _ (pos (x % m * 1)) _ (times_congruent m (x % m) (s * lead) 1 h)
     (IsCongruent-then (pos m) _ (pos (x % m)) _ (congruent_same m _ _ (omega arith)) (rest_congruent m x)))))
 
--- what a kept row becomes at column k
-pub record Replaces (w k : ℕ) (old new : List ℕ) (f : ℕ → ℕ) : Type 0 where
-  pub written : (j : ℕ) → j < w → slice_index new (k * w + j) ≡ f j
-  pub before : (i : ℕ) → i < k * w → slice_index new i ≡ slice_index old i
-  pub after : (i : ℕ) → k * w + w ≤ i → slice_index new i ≡ slice_index old i
-
-row_other : (w k d j : ℕ) (old new : List ℕ) (f : ℕ → ℕ) → Replaces w k old new f → d ≢ k → j < w → slice_index new (d * w + j) ≡ slice_index old (d * w + j)
+-- a row's place in the basis that was written
+row_other : (w k d j : ℕ) (old new : List ℕ) (f : ℕ → ℕ) → Replaces w (k * w) old new f → d ≢ k → j < w → slice_index new (d * w + j) ≡ slice_index old (d * w + j)
 row_other w k d j old new f r ne lt = ⊎_elim
     (λ low. r.before (d * w + j) (place_before w d k j low lt))
     (λ high. r.after (d * w + j) (place_after w d k j (omega arith)))
     (cases_lt d k)
 
-row_same : (w k d j : ℕ) (old new : List ℕ) (f : ℕ → ℕ) → Replaces w k old new f → d ≡ k → j < w → slice_index new (d * w + j) ≡ f j
+row_same : (w k d j : ℕ) (old new : List ℕ) (f : ℕ → ℕ) → Replaces w (k * w) old new f → d ≡ k → j < w → slice_index new (d * w + j) ≡ f j
 row_same w k d j old new f r e lt = ap (λ i. slice_index new (i * w + j)) e ∙ r.written j lt
 
-new_below : (m w k : ℕ) (old new : List ℕ) (f : ℕ → ℕ) → Replaces w k old new f → ((j : ℕ) → f j < m) → ((i : ℕ) → slice_index old i < m) → (i : ℕ) → slice_index new i < m
+new_below : (m w k : ℕ) (old new : List ℕ) (f : ℕ → ℕ) → Replaces w (k * w) old new f → ((j : ℕ) → f j < m) → ((i : ℕ) → slice_index old i < m) → (i : ℕ) → slice_index new i < m
 new_below m w k old new f r small h i =
     let P : ℕ → Type 0 = λ x. x < m in
     ⊎_elim (λ low. subst P (sym (r.before i low)) (h i))
@@ -124,7 +120,7 @@ new_below m w k old new f r small h i =
     (λ above. subst P (sym (r.after i above)) (h i)) (cases_lt i (k * w + w)))
     (cases_lt i (k * w))
 
-pub placed_basis : (m w k : ℕ) (old new kept : List ℕ) (f : ℕ → ℕ) → IsBasis m w old kept → k < w → length new ≡ length old → Replaces w k old new f
+pub placed_basis : (m w k : ℕ) (old new kept : List ℕ) (f : ℕ → ℕ) → IsBasis m w old kept → k < w → length new ≡ length old → Replaces w (k * w) old new f
     → ((j : ℕ) → f j < m) → ((j : ℕ) → j < k → f j ≡ 0) → f k ≡ 1 → IsBasis m w new (set kept k 1)
 placed_basis m w k old new kept f b lt len r small none one =
     let kept_len = length-set kept k 1 in
@@ -148,7 +144,7 @@ placed_basis m w k old new kept f b lt len r small none one =
           (cases_eq d k);
     }
 
-pub placed_keeps : (m w k : ℕ) (old new kept : List ℕ) (f : ℕ → ℕ) (a : List ℤ) → slice_index kept k ≡ 0 → Replaces w k old new f → length a ≡ w
+pub placed_keeps : (m w k : ℕ) (old new kept : List ℕ) (f : ℕ → ℕ) (a : List ℤ) → slice_index kept k ≡ 0 → Replaces w (k * w) old new f → length a ≡ w
     → VanishesAtEach m w new (set kept k 1) a → VanishesAtEach m w old kept a
 placed_keeps m w k old new kept f a free r len h d lt one =
     let ne : d ≢ k = λ e. let o = ap (slice_index kept) e in absurd (omega arith) in
@@ -166,13 +162,16 @@ placed_follows m w k lead row new kept a lt kept_len len h v =
 
 -- How far a row is cleared: its columns before c, by so many steps since it was last reduced
 pub record IsCleared (m : ℕ) (basis kept start : List ℕ) (c : ℕ) (row : List ℕ) (steps : ℕ) : Type 0 where
-  pub cleared : (j : ℕ) → j < c → IsCongruent (pos m) (pos (slice_index row j)) (pos 0)
+  pub cleared : (j : ℕ) → j < c → IsZeroAt m row j
   pub follows : (a : List ℤ) → length a ≡ length start → VanishesAtEach m (length start) basis kept a → Vanishes m a row 0 → Vanishes m a start 0
-  pub few : steps ≤ 200
-  pub sums : (j : ℕ) → slice_index row j ≤ 4590 + steps * 21068100
+  pub unreduced : IsUnreduced steps row
 
 pub zero_rest : (m x : ℕ) → x % m ≡ 0 → IsCongruent (pos m) (pos x) (pos 0)
 zero_rest m x e = congruent_by m x 0 (x / m) (omega arith)
+
+-- a row that a basis keeps
+pub kept_row : (m w c : ℕ) (basis kept : List ℕ) → IsBasis m w basis kept → c < w → slice_index kept c ≡ 1 → IsKeptRow m w c basis
+kept_row m w c basis kept b lt one = record { len = b.len; below = b.below; before = λ j below. b.before c j lt below; pivot = b.pivot c lt one }
 
 -- the same facts of equal things
 pub moved_basis : (m w v : ℕ) (basis old kept was : List ℕ) → w ≡ v → basis ≡ old → kept ≡ was → IsBasis m v old was → IsBasis m w basis kept

@@ -9,6 +9,7 @@ use Rattle.ring_poly.specs.Ring.{IsCongruent, weighted}
 use Rattle.ring_poly.proofs.Weighted.{weighted_more}
 use Rattle.ring_poly.proofs.Congruences.{IsCongruent-same, IsCongruent-then}
 use Rattle.ring_solve.specs.Elimination.{numbers_from, Vanishes, VanishesAtEach, IsBasis}
+use Rattle.ring_solve.specs.Steps.{SolvesBefore}
 
 -- numbers that are all at least 1
 pub length-le-sum : (xs : List ℕ) → ((k : ℕ) → k < length xs → 1 ≤ slice_index xs k) → length xs ≤ sum xs
@@ -62,13 +63,13 @@ weighted_none (x ∷ xs) g h =
 
 -- the rows of columns after the free one meet only zeros
 pub each_vanishes : (m w free : ℕ) (x basis kept : List ℕ) → IsBasis m w basis kept → length x ≡ w → slice_index kept free ≡ 0
-    → ((j : ℕ) → free < j → slice_index x j ≡ 0) → ((c : ℕ) → c < free → Vanishes m (map pos x) basis (c * w)) → VanishesAtEach m w basis kept (map pos x)
-each_vanishes m w free x basis kept b len none beyond low c lt one =
+    → SolvesBefore m w free basis x → VanishesAtEach m w basis kept (map pos x)
+each_vanishes m w free x basis kept b len none s c lt one =
     ⊎_elim (λ same. let e = ap (slice_index kept) same in absurd (omega arith))
-    (λ apart. ⊎_elim (λ below. low c below)
+    (λ apart. ⊎_elim (λ below. s.vanishes c below)
     (λ above. IsCongruent-same (pos m) _ (pos 0) (weighted_none x (numbers_from basis (c * w)) (λ j j_lt.
     ⊎_elim (λ left. ap (λ n. pos (slice_index x j) *ℤ pos n) (b.before c j lt left) ∙ *ℤ-zero (pos (slice_index x j)))
-    (λ right. ap (λ n. pos n *ℤ numbers_from basis (c * w) j) (beyond j (omega arith)) ∙ zero-*ℤ (numbers_from basis (c * w) j))
+    (λ right. ap (λ n. pos n *ℤ numbers_from basis (c * w) j) (s.beyond j (omega arith)) ∙ zero-*ℤ (numbers_from basis (c * w) j))
     (cases_lt j c))))
     apart)
     (cases_order c free)

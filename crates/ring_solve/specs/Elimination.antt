@@ -23,6 +23,19 @@ pub record IsBasis (m w : ℕ) (basis kept : List ℕ) : Type 0 where
   pub pivot : (c : ℕ) → c < w → slice_index kept c ≡ 1 → slice_index basis (c * w + c) ≡ 1
   pub counts : (c : ℕ) → slice_index kept c ≤ 1
 
+-- The row for column c is kept in a basis.
+pub record IsKeptRow (m w c : ℕ) (basis : List ℕ) : Type 0 where
+  pub len : length basis ≡ w * w
+  pub below : (k : ℕ) → slice_index basis k < m
+  pub before : (j : ℕ) → j < c → slice_index basis (c * w + j) ≡ 0
+  pub pivot : slice_index basis (c * w + c) ≡ 1
+
 -- no number between 1 and m divides m
 abbrev pub IsPrime : ℕ → Type 0
 IsPrime m = (k : ℕ) → 1 < k → k < m → 0 < m % k
+
+-- A prime so small that some products of numbers below it have room in a sum.
+pub record IsSmallPrime (m : ℕ) : Type 0 where
+  pub prime : IsPrime m
+  pub some : 1 < m
+  pub small : m ≤ 4591

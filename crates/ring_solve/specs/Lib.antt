@@ -1,3 +1,4 @@
 pub mod Elimination
 pub mod Fields
 pub mod Solutions
+pub mod Steps

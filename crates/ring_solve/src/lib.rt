@@ -5,7 +5,9 @@ ghost use Rattle.std.specs.Prelude.{◌≡◌, ℕ, ◌+◌, ◌-◌, ◌*◌, �
 ghost use Rattle.ring_poly.specs.Ring.{AreCongruent, IsCentred, IsCongruent, IsModulus, IsWithin, coefficient, product, weighted};
 ghost use Rattle.ring_solve.specs.Fields.{IsField, one, zero_of};
 ghost use Rattle.ring_solve.specs.Solutions.{Solves, coefficients_of};
-ghost use Rattle.ring_solve.specs.Elimination.{numbers_from, Vanishes, VanishesAtEach, IsBasis, IsPrime};
+ghost use Rattle.ring_solve.specs.declared.answer.Solved.TheVariants.{Inverse, Kernel};
+ghost use Rattle.ring_solve.specs.Elimination.{numbers_from, IsBasis, IsKeptRow, IsSmallPrime};
+ghost use Rattle.ring_solve.specs.Steps.{AreMultiples, AreRests, Clears, HasRoom, IsLead, IsMemory, IsSum, IsUnreduced, IsZeroAt, Replaces, SolvesBefore, SolvesRows, TakesIn, TakesRows};
 
 mod answer;
 
@@ -22,8 +24,7 @@ const STEPS: u32 = 200;
 /// The inverse of a number modulo a prime.
 #[inline(always)]
 fn invert(m: u32, number: u32) -> u32
-    requires prime { IsPrime m }
-    requires small { m ≤ 4591 }
+    requires modulus { IsSmallPrime m }
     requires low { 0 < number }
     requires high { number < m }
     ensures below { result < m }
@@ -51,11 +52,8 @@ fn reduce_row(m: u32, row: &mut [u32])
 
 /// Adds to the row, from a column on, a multiple of the row that begins at a place and has 0 before that column.
 fn add_multiple(factor: u32, from: usize, row: &mut [u32], basis: &[u16], at: usize)
-    requires place { at + length row.old ≤ length basis.now }
-    requires room { length basis.now < 2 ^ 62 }
-    requires before { (j : ℕ) → j < from → slice_index basis.now (at + j) ≡ 0 }
-    requires fits { (j : ℕ) → j < length row.old → slice_index row.old j + factor * slice_index basis.now (at + j) < 2 ^ 32 }
-    ensures { (j : ℕ) → j < length row.old → slice_index row.new j ≡ slice_index row.old j + factor * slice_index basis.now (at + j) }
+    requires room { HasRoom factor from row.old basis.now at }
+    ensures { IsSum factor row.old basis.now at row.new }
 {
     for j in from..row.len() {
         row[j] += factor * basis[at + j] as u32;
@@ -64,12 +62,9 @@ fn add_multiple(factor: u32, from: usize, row: &mut [u32], basis: &[u16], at: us
 
 /// The same where each product fits 16 bits, so that more of them are made at once.
 fn add_small_multiple(factor: u16, from: usize, row: &mut [u32], basis: &[u16], at: usize)
-    requires place { at + length row.old ≤ length basis.now }
-    requires room { length basis.now < 2 ^ 62 }
-    requires before { (j : ℕ) → j < from → slice_index basis.now (at + j) ≡ 0 }
+    requires room { HasRoom factor from row.old basis.now at }
     requires narrow { (k : ℕ) → factor * slice_index basis.now k < 2 ^ 16 }
-    requires fits { (j : ℕ) → j < length row.old → slice_index row.old j + factor * slice_index basis.now (at + j) < 2 ^ 32 }
-    ensures { (j : ℕ) → j < length row.old → slice_index row.new j ≡ slice_index row.old j + factor * slice_index basis.now (at + j) }
+    ensures { IsSum factor row.old basis.now at row.new }
 {
     for j in from..row.len() {
         row[j] += u32::from(factor * basis[at + j]);
@@ -85,11 +80,8 @@ const NARROW: u32 = 256;
 fn add_kept(m: u32, factor: u32, c: usize, row: &mut [u32], basis: &[u16], at: usize)
     requires factor { factor < m }
     requires below { (k : ℕ) → slice_index basis.now k < m }
-    requires place { at + length row.old ≤ length basis.now }
-    requires room { length basis.now < 2 ^ 62 }
-    requires before { (j : ℕ) → j < c → slice_index basis.now (at + j) ≡ 0 }
-    requires fits { (j : ℕ) → j < length row.old → slice_index row.old j + factor * slice_index basis.now (at + j) < 2 ^ 32 }
-    ensures { (j : ℕ) → j < length row.old → slice_index row.new j ≡ slice_index row.old j + factor * slice_index basis.now (at + j) }
+    requires room { HasRoom factor c row.old basis.now at }
+    ensures { IsSum factor row.old basis.now at row.new }
 {
     if m <= NARROW {
         add_small_multiple(factor as u16, c - c % 16, row, basis, at);
@@ -106,9 +98,7 @@ fn keep(m: u32, scale: u32, row: &[u32], basis: &mut [u16], at: usize)
     requires scale_small { scale < m }
     requires place { at + length row.now ≤ length basis.old }
     requires room { length basis.old < 2 ^ 62 }
-    ensures written { (j : ℕ) → j < length row.now → slice_index basis.new (at + j) ≡ slice_index row.now j % m * scale % m }
-    ensures before { (k : ℕ) → k < at → slice_index basis.new k ≡ slice_index basis.old k }
-    ensures after { (k : ℕ) → at + length row.now ≤ k → slice_index basis.new k ≡ slice_index basis.old k }
+    ensures { Replaces (length row.now) at basis.old basis.new (λ j. slice_index row.now j % m * scale % m) }
 {
     for j in 0..row.len() {
         basis[at + j] = (row[j] % m * scale % m) as u16;
@@ -120,10 +110,9 @@ fn keep(m: u32, scale: u32, row: &[u32], basis: &mut [u16], at: usize)
 fn settle(m: u32, steps: u32, row: &mut [u32]) -> u32
     requires some { 0 < m }
     requires small { m ≤ 4591 }
-    requires few { steps ≤ 200 }
-    requires sums { (j : ℕ) → slice_index row.old j ≤ 4590 + steps * 21068100 }
-    ensures few { result < 200 }
-    ensures sums { (j : ℕ) → slice_index row.new j ≤ 4590 + result * 21068100 }
+    requires row { IsUnreduced steps row.old }
+    ensures room { result < 200 }
+    ensures row { IsUnreduced result row.new }
     ensures same { (j : ℕ) → IsCongruent (pos m) (pos (slice_index row.new j)) (pos (slice_index row.old j)) }
 {
     if steps < STEPS {
@@ -138,21 +127,11 @@ fn settle(m: u32, steps: u32, row: &mut [u32]) -> u32
 fn clear(m: u32, lead: u32, c: usize, steps: u32, row: &mut [u32], basis: &[u16]) -> u32
     requires small { m ≤ 4591 }
     requires width { length row.old ≤ 761 }
-    requires column { c < length row.old }
-    requires lead { lead ≡ slice_index row.old c % m }
-    requires lead_below { lead < m }
-    requires lead_some { 0 < lead }
-    requires few { steps ≤ 200 }
-    requires sums { (j : ℕ) → slice_index row.old j ≤ 4590 + steps * 21068100 }
-    requires len { length basis.now ≡ length row.old * length row.old }
-    requires below { (k : ℕ) → slice_index basis.now k < m }
-    requires before { (j : ℕ) → j < c → slice_index basis.now (c * length row.old + j) ≡ 0 }
-    requires pivot { slice_index basis.now (c * length row.old + c) ≡ 1 }
-    ensures few { result ≤ 200 }
-    ensures sums { (j : ℕ) → slice_index row.new j ≤ 4590 + result * 21068100 }
-    ensures column { IsCongruent (pos m) (pos (slice_index row.new c)) (pos 0) }
-    ensures before { (j : ℕ) → j < c → IsCongruent (pos m) (pos (slice_index row.old j)) (pos 0) → IsCongruent (pos m) (pos (slice_index row.new j)) (pos 0) }
-    ensures vanishes { (a : List ℤ) → length a ≡ length row.old → Vanishes m a basis.now (c * length row.old) → Vanishes m a row.new 0 → Vanishes m a row.old 0 }
+    requires lead { IsLead m c row.old lead }
+    requires row { IsUnreduced steps row.old }
+    requires kept { IsKeptRow m (length row.old) c basis.now }
+    ensures row { IsUnreduced result row.new }
+    ensures clears { Clears m c basis.now row.old row.new }
 {
     let at = c * row.len();
     let taken = settle(m, steps, row);
@@ -163,20 +142,13 @@ fn clear(m: u32, lead: u32, c: usize, steps: u32, row: &mut [u32], basis: &[u16]
 /// Keeps the row for a column.
 #[inline(always)]
 fn place(m: u32, lead: u32, c: usize, row: &[u32], basis: &mut [u16], kept: &mut [u8])
-    requires prime { IsPrime m }
-    requires some { 1 < m }
-    requires small { m ≤ 4591 }
+    requires modulus { IsSmallPrime m }
     requires width { length row.now ≤ 761 }
-    requires column { c < length row.now }
-    requires lead { lead ≡ slice_index row.now c % m }
-    requires lead_some { 0 < lead }
-    requires cleared { (j : ℕ) → j < c → IsCongruent (pos m) (pos (slice_index row.now j)) (pos 0) }
+    requires lead { IsLead m c row.now lead }
+    requires cleared { (j : ℕ) → j < c → IsZeroAt m row.now j }
     requires basis { IsBasis m (length row.now) basis.old kept.old }
     requires free { slice_index kept.old c ≡ 0 }
-    ensures basis { IsBasis m (length row.now) basis.new kept.new }
-    ensures follows { (a : List ℤ) → length a ≡ length row.now → VanishesAtEach m (length row.now) basis.new kept.new a → Vanishes m a row.now 0 }
-    ensures keeps { (a : List ℤ) → length a ≡ length row.now → VanishesAtEach m (length row.now) basis.new kept.new a → VanishesAtEach m (length row.now) basis.old kept.old a }
-    ensures count { sum kept.new ≤ sum kept.old + 1 }
+    ensures { TakesIn m row.now basis.old kept.old basis.new kept.new }
 {
     let at = c * row.len();
     keep(m, invert(m, lead), row, basis, at);
@@ -186,16 +158,11 @@ fn place(m: u32, lead: u32, c: usize, row: &[u32], basis: &mut [u16], kept: &mut
 /// Takes the row modulo m into the basis: as a multiple of what is left of it, once the kept rows are subtracted.
 #[inline(always)]
 fn insert(m: u32, row: &mut [u32], basis: &mut [u16], kept: &mut [u8])
-    requires prime { IsPrime m }
-    requires some { 1 < m }
-    requires small { m ≤ 4591 }
+    requires modulus { IsSmallPrime m }
     requires width { length row.old ≤ 761 }
-    requires row_below { (j : ℕ) → slice_index row.old j < m }
+    requires row { (j : ℕ) → slice_index row.old j < m }
     requires basis { IsBasis m (length row.old) basis.old kept.old }
-    ensures basis { IsBasis m (length row.old) basis.new kept.new }
-    ensures follows { (a : List ℤ) → length a ≡ length row.old → VanishesAtEach m (length row.old) basis.new kept.new a → Vanishes m a row.old 0 }
-    ensures keeps { (a : List ℤ) → length a ≡ length row.old → VanishesAtEach m (length row.old) basis.new kept.new a → VanishesAtEach m (length row.old) basis.old kept.old a }
-    ensures count { sum kept.new ≤ sum kept.old + 1 }
+    ensures { TakesIn m row.old basis.old kept.old basis.new kept.new }
 {
     let mut steps = 0u32;
     for c in 0..row.len() {
@@ -257,15 +224,9 @@ fn solve(m: u32, free: usize, basis: &[u16], x: &mut [u32])
     requires small { m ≤ 4591 }
     requires width { length x.old ≤ 761 }
     requires column { free < length x.old }
-    requires len { length basis.now ≡ length x.old * length x.old }
-    requires basis_below { (k : ℕ) → slice_index basis.now k < m }
-    requires before { (c j : ℕ) → c < length x.old → j < c → slice_index basis.now (c * length x.old + j) ≡ 0 }
-    requires pivot { (c : ℕ) → c < free → slice_index basis.now (c * length x.old + c) ≡ 1 }
+    requires rows { (c : ℕ) → c < free → IsKeptRow m (length x.old) c basis.now }
     requires blank { (j : ℕ) → slice_index x.old j ≡ 0 }
-    ensures below { (j : ℕ) → slice_index x.new j < m }
-    ensures one { slice_index x.new free ≡ 1 }
-    ensures beyond { (j : ℕ) → free < j → slice_index x.new j ≡ 0 }
-    ensures vanishes { (c : ℕ) → c < free → Vanishes m (map pos x.new) basis.now (c * length x.old) }
+    ensures { SolvesBefore m (length x.old) free basis.now x.new }
 {
     let width = x.len();
     x[free] = 1;
@@ -276,21 +237,18 @@ fn solve(m: u32, free: usize, basis: &[u16], x: &mut [u32])
     }
 }
 
-/// Takes the rows from 1 on of a multiplication into the basis. The rows are windows of the residues, the first the last.
+/// Takes the rows from 1 on of a multiplication into the basis. The rows are windows of the residues, the first of them
+/// the last.
 #[inline(always)]
 fn eliminate(m: u32, residues: &[u32], row: &mut [u32], basis: &mut [u16], kept: &mut [u8])
-    requires prime { IsPrime m }
-    requires some { 1 < m }
-    requires small { m ≤ 4591 }
+    requires modulus { IsSmallPrime m }
     requires wide { 0 < length row.old }
     requires width { length row.old ≤ 761 }
     requires len { length residues.now + 1 ≡ 2 * length row.old }
     requires below { (k : ℕ) → slice_index residues.now k < m }
     requires basis { IsBasis m (length row.old) basis.old kept.old }
     requires empty { sum kept.old ≡ 0 }
-    ensures basis { IsBasis m (length row.old) basis.new kept.new }
-    ensures count { sum kept.new + 1 ≤ length row.old }
-    ensures rows { (a : List ℤ) → length a ≡ length row.old → VanishesAtEach m (length row.old) basis.new kept.new a → (r : ℕ) → 0 < r → r < length row.old → Vanishes m a residues.now (length row.old - 1 - r) }
+    ensures { TakesRows m (length row.old) (length row.old) residues.now basis.new kept.new }
 {
     let width = row.len();
     for r in 1..width {
@@ -319,7 +277,7 @@ fn reduce_numbers(m: u32, numbers: &[i16], residues: &mut [u32])
     requires len { length residues.old ≡ length numbers.now }
     requires within { (j : ℕ) → IsWithin 4590 (coefficient numbers.now j) }
     ensures below { (j : ℕ) → slice_index residues.new j < m }
-    ensures congruent { (j : ℕ) → j < length numbers.now → IsCongruent (pos m) (pos (slice_index residues.new j)) (coefficient numbers.now j) }
+    ensures congruent { AreRests m residues.new numbers.now }
 {
     for j in 0..numbers.len() {
         residues[j] = residue(m, numbers[j]);
@@ -332,7 +290,7 @@ fn center_each<const M: i32>(scale: u32, x: &[u32], out: &mut [i16])
     requires scale_small { scale ≤ 4590 }
     requires below { (j : ℕ) → slice_index x.now j ≤ 4590 }
     requires len { length out.old ≡ length x.now }
-    ensures congruent { (j : ℕ) → j < length x.now → IsCongruent M (coefficient out.new j) (pos (scale * slice_index x.now j)) }
+    ensures congruent { AreMultiples M scale x.now out.new }
     ensures centred { All (IsCentred M) out.new }
 {
     for j in 0..x.len() {
@@ -372,22 +330,11 @@ fn kernel_numbers<const P: usize>(
     x: &mut [u32],
 )
     requires size { (1 < P) × (P ≤ 761) }
-    requires prime { IsPrime m }
-    requires some { 1 < m }
-    requires small { m ≤ 4591 }
+    requires modulus { IsSmallPrime m }
     requires a_len { length a.now ≡ P }
     requires a_within { (j : ℕ) → IsWithin 2295 (coefficient a.now j) }
-    requires residues_len { length residues.old + 1 ≡ 2 * P }
-    requires row_len { length row.old ≡ P }
-    requires basis_len { length basis.old ≡ P * P }
-    requires kept_len { length kept.old ≡ P }
-    requires x_len { length x.old ≡ P }
-    requires basis_blank { (k : ℕ) → slice_index basis.old k ≡ 0 }
-    requires kept_blank { (k : ℕ) → slice_index kept.old k ≡ 0 }
-    requires x_blank { (k : ℕ) → slice_index x.old k ≡ 0 }
-    ensures below { (j : ℕ) → slice_index x.new j < m }
-    ensures one { (j : ℕ) × (j < P) × (slice_index x.new j ≡ 1) }
-    ensures rows { (k : ℕ) → 0 < k → k < P → IsCongruent (pos m) (coefficient (product P a.now (map pos x.new)) k) (pos 0) }
+    requires memory { IsMemory P residues.old row.old basis.old kept.old x.old }
+    ensures { SolvesRows m P a.now x.new }
 {
     let mut room = blank();
     let numbers = &mut room[..2 * P - 1];
@@ -408,19 +355,16 @@ fn decide<const P: usize, const M: i32>(
 ) -> bool
     requires size { (1 < P) × (P ≤ 761) }
     requires modulus { IsModulus M }
-    requires prime { IsPrime m }
+    requires prime { IsSmallPrime m }
     requires same { pos m ≡ M }
     requires a_len { length a.now ≡ P }
     requires a_centred { All (IsCentred M) a.now }
-    requires x_len { length x.now ≡ P }
+    requires solved { SolvesRows m P a.now x.now }
     requires answer_len { length answer.old ≡ P }
     requires check_len { length check.old ≡ P }
-    requires below { (j : ℕ) → slice_index x.now j < m }
-    requires one { (j : ℕ) × (j < P) × (slice_index x.now j ≡ 1) }
-    requires rows { (k : ℕ) → 0 < k → k < P → IsCongruent (pos m) (coefficient (product P a.now (map pos x.now)) k) (pos 0) }
     ensures centred { All (IsCentred M) answer.new }
-    ensures inverse { result ≡ true → AreCongruent M (product P a.now answer.new) (one P) }
-    ensures kernel { result ≡ false → AreCongruent M (product P a.now answer.new) (zero_of P) × (answer.new ≡ zero_of P → ⊥) }
+    ensures inverse { result ≡ true → Solves P M a.now (Inverse answer.new) }
+    ensures kernel { result ≡ false → Solves P M a.now (Kernel answer.new) }
 {
     center_each::<M>(1, x, answer);
     mul_q::<P, M>(a, answer, check);
@@ -467,15 +411,10 @@ fn zero_coefficients(alloc: Global, count: usize) -> Result<Vec<i16>, AllocError
 #[inline(always)]
 fn found<const P: usize>(alloc: Global, m: u32, a: &[i16]) -> Result<Vec<u32>, AllocError>
     requires size { (1 < P) × (P ≤ 761) }
-    requires prime { IsPrime m }
-    requires some { 1 < m }
-    requires small { m ≤ 4591 }
+    requires modulus { IsSmallPrime m }
     requires a_len { length a.now ≡ P }
     requires a_within { (j : ℕ) → IsWithin 2295 (coefficient a.now j) }
-    ensures len { IfOk result (λ x. length x.items ≡ P) }
-    ensures below { IfOk result (λ x. (j : ℕ) → slice_index x.items j < m) }
-    ensures one { IfOk result (λ x. (j : ℕ) × (j < P) × (slice_index x.items j ≡ 1)) }
-    ensures rows { IfOk result (λ x. (k : ℕ) → 0 < k → k < P → IsCongruent (pos m) (coefficient (product P a.now (map pos x.items)) k) (pos 0)) }
+    ensures { IfOk result (λ x. SolvesRows m P a.now x.items) }
 {
     let mut residues = zeros(alloc, 2 * P - 1)?;
     let mut row = zeros(alloc, P)?;
@@ -494,8 +433,8 @@ fn found<const P: usize>(alloc: Global, m: u32, a: &[i16]) -> Result<Vec<u32>, A
     Ok(x)
 }
 
-/// The inverse of a polynomial of P coefficients modulo x^P - x - 1 and M; or, where it has none, a polynomial that isn't
-/// 0 and whose product with it is 0. The error is want of memory.
+/// The inverse of a polynomial of P coefficients modulo x^P - x - 1 and M; or, where it has none, a polynomial that
+/// isn't 0 and whose product with it is 0. The error is want of memory.
 pub fn inverse<const P: usize, const M: i32>(alloc: Global, a: &[i16]) -> Result<Solved, Memory>
     requires size { (1 < P) × (P ≤ 761) }
     requires modulus { IsField M }

@@ -15,8 +15,8 @@ returns-then-check-eq0-clause-kernel g c = λ _.
     let w = within_from_centred _ c.mul_q.new.out c.requires.modulus c.mul_q.ensures.centred 0 in
     let lo = w.0 in let hi = w.1 in
     let zero_check = c.if-check-eq0.true in
-    decided_kernel c.args.m _ c.requires.same g.row.P c.args.a.now c.center_each.new.out c.mul_q.new.out c.args.x.now (omega (arith, ints)) (omega arith) c.requires.x_len (omega arith)
-    c.center_each.ensures.congruent c.requires.one c.requires.rows c.mul_q.ensures.congruent (omega (arith, ints))
+    decided_kernel c.args.m _ c.requires.same g.row.P c.args.a.now c.center_each.new.out c.mul_q.new.out c.args.x.now (omega (arith, ints)) (omega arith) c.requires.solved.len (omega arith)
+    c.center_each.ensures.congruent c.requires.solved.one c.requires.solved.rows c.mul_q.ensures.congruent (omega (arith, ints))
 
 pub residue-requires-clause-within : goal.residue-requires-clause-within
 residue-requires-clause-within g c =
@@ -39,5 +39,5 @@ returns-clause-inverse g c = λ _.
     let w = within_from_centred _ c.mul_q.new.out c.requires.modulus c.mul_q.ensures.centred 0 in
     let lo = w.0 in let hi = w.1 in
     let cast : to_z w16 (of_z w16 (coefficient c.mul_q.new.out 0)) ≡ coefficient c.mul_q.new.out 0 = omega (arith, ints) in
-    decided_inverse c.args.m _ c.requires.same g.row.P c.args.a.now c.center_each.new.out c.mul_q.new.out c.center_each-2.new.out c.args.x.now c.invert-scale.result c.residue.result (omega arith) c.requires.x_len (omega arith) (omega arith)
-    c.center_each.ensures.congruent c.mul_q.ensures.congruent (IsCongruent-onto _ _ _ _ c.residue.ensures.congruent cast) c.invert-scale.ensures.inverse c.center_each-2.ensures.congruent c.requires.rows
+    decided_inverse c.args.m _ c.requires.same g.row.P c.args.a.now c.center_each.new.out c.mul_q.new.out c.center_each-2.new.out c.args.x.now c.invert-scale.result c.residue.result (omega arith) c.requires.solved.len (omega arith) (omega arith)
+    c.center_each.ensures.congruent c.mul_q.ensures.congruent (IsCongruent-onto _ _ _ _ c.residue.ensures.congruent cast) c.invert-scale.ensures.inverse c.center_each-2.ensures.congruent c.requires.solved.rows

@@ -5,6 +5,13 @@ use Rattle.ring_solve.specs.Elimination.{Vanishes}
 use Rattle.ring_solve.proofs.Eliminates.{moved_basis, moved_each, vanishes_same}
 use Rattle.ring_solve.proofs.eliminate.Goals as goal
 
+pub loop-r-init : goal.loop-r-init
+loop-r-init c = record {
+  is_basis = c.requires.basis;
+  count = let e = c.requires.empty in omega arith;
+  rows = λ a len each r some lt. absurd (omega arith);
+}
+
 pub loop-r-preserved : goal.loop-r-preserved
 loop-r-preserved c =
     let m = c.args.m in
@@ -14,7 +21,7 @@ loop-r-preserved c =
     let start = w - 1 - c.loop-r.r in
     let i = c.loop-r.invariant in
     record {
-      basis = moved_basis m w (length row) c.insert.new.basis c.insert.new.basis c.insert.new.kept c.insert.new.kept (sym same) refl refl c.insert.ensures.basis;
+      is_basis = moved_basis m w (length row) c.insert.new.basis c.insert.new.basis c.insert.new.kept c.insert.new.kept (sym same) refl refl c.insert.ensures.basis;
       count = let n = c.insert.ensures.count in let b = i.count in omega arith;
       rows = λ a len each r some lt.
           let now = moved_each m w (length row) c.insert.new.basis c.insert.new.basis c.insert.new.kept c.insert.new.kept a (sym same) refl refl each in

@@ -17,7 +17,7 @@ pub loop-rest-preserved : goal.loop-rest-preserved
 loop-rest-preserved c =
     let i = c.loop-rest.invariant in
     record {
-      some = c.requires.prime c.loop-rest.rest (omega arith) i.below;
+      some = c.requires.modulus.prime c.loop-rest.rest (omega arith) i.below;
       below = omega (arith, mod_below c.args.m c.loop-rest.rest i.some);
       factor_below = mod_below _ c.args.m (omega arith);
       is = inversion_step c.args.m c.loop-rest.factor c.args.number c.loop-rest.rest i.some i.below i.is;

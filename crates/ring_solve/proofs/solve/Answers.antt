@@ -10,13 +10,13 @@ pub overflow_mul-c : goal.overflow_mul-c
 overflow_mul-c c = omega (arith, mul-le (c.args.free - 1 - c.loop-step.step) (length c.args.x.now) 761 761 (omega arith) (omega arith))
 
 pub row_sum-sum-requires-clause-place : goal.row_sum-sum-requires-clause-place
-row_sum-sum-requires-clause-place c = omega (arith, length-set c.args.x.now c.args.free 1, row_fits (c.args.free - 1 - c.loop-step.step) (length c.args.x.now) (length c.args.x.now) (length c.args.x.now) (omega arith) (omega arith))
+row_sum-sum-requires-clause-place c = let r = c.requires.rows (c.args.free - 1 - c.loop-step.step) (omega arith) in let len = r.len in omega (arith, length-set c.args.x.now c.args.free 1, row_fits (c.args.free - 1 - c.loop-step.step) (length c.args.x.now) (length c.args.x.now) (length c.args.x.now) (omega arith) (omega arith))
 
 pub row_sum-sum-requires-clause-room : goal.row_sum-sum-requires-clause-room
-row_sum-sum-requires-clause-room c = omega (arith, mul-le (length c.args.x.now) (length c.args.x.now) 761 761 (omega arith) (omega arith))
+row_sum-sum-requires-clause-room c = let r = c.requires.rows (c.args.free - 1 - c.loop-step.step) (omega arith) in let len = r.len in omega (arith, mul-le (length c.args.x.now) (length c.args.x.now) 761 761 (omega arith) (omega arith))
 
 pub row_sum-sum-requires-clause-basis_below : goal.row_sum-sum-requires-clause-basis_below
-row_sum-sum-requires-clause-basis_below c = λ k. let b = c.requires.basis_below k in omega arith
+row_sum-sum-requires-clause-basis_below c = λ k. let r = c.requires.rows (c.args.free - 1 - c.loop-step.step) (omega arith) in let b = r.below k in omega arith
 
 pub row_sum-sum-requires-clause-below : goal.row_sum-sum-requires-clause-below
 row_sum-sum-requires-clause-below c = λ j. let b = c.loop-step.invariant.below j in omega arith
@@ -49,7 +49,7 @@ loop-step-preserved c =
       unset = λ j lt. let ne : j ≢ k = omega arith in get_or-set_other x k j v 0 ne ∙ i.unset j (omega arith);
       vanishes = λ d le lt. ⊎_elim
           (λ same. subst (λ (n : ℕ). Vanishes c.args.m (map pos (set x k v)) c.args.basis.now (n * w)) (sym same)
-          (solved_here c.args.m k v c.row_sum-sum.result x c.args.basis.now (k * w) in_x none (c.requires.pivot k (omega arith)) c.row_sum-sum.ensures c.negated.ensures.opposite))
-          (λ other. solved_same c.args.m k v x c.args.basis.now (d * w) in_x none (c.requires.before d k (omega arith) (omega arith)) (i.vanishes d (omega arith) lt))
+          (solved_here c.args.m k v c.row_sum-sum.result x c.args.basis.now (k * w) in_x none (let r = c.requires.rows k (omega arith) in r.pivot) c.row_sum-sum.ensures c.negated.ensures.opposite))
+          (λ other. solved_same c.args.m k v x c.args.basis.now (d * w) in_x none (let r = c.requires.rows d (omega arith) in r.before k (omega arith)) (i.vanishes d (omega arith) lt))
           (cases_eq d k);
     }
