@@ -1,6 +1,7 @@
 -- Opening undoes sealing, and how many bytes each thing has.
-use Rattle.std.proofs.Common.{◌≡◌, ℕ, ◌+◌, ◌-◌, ◌/◌, Bool, true, false, cond, List, [], ◌++◌, length, take, drop, codes, Some, None, refl, sym, ◌∙◌, ap, ap₂, arith, length-append, take-append-drop}
+use Rattle.std.proofs.Common.{◌≡◌, ℕ, ◌+◌, ◌-◌, ◌/◌, Bool, cond, List, [], ◌++◌, length, take, drop, codes, Some, None, refl, sym, ◌∙◌, ap, ap₂, arith, length-append, take-append-drop}
 use Rattle.std.specs.Prelude.{bytes_eq}
+use Rattle.std.proofs.lemmas.Option.{cond_some}
 use Rattle.std.proofs.lemmas.Slice.Eq.{bytes_eq-Decides}
 use Rattle.std.proofs.lemmas.List.{take_at, drop_at, length-take-le}
 use Rattle.hkdf_seal.specs.Keys.{blocks, expand, kdf}
@@ -49,14 +50,10 @@ opened-sealed_with_tag key text =
     ∙ ap Some (sealed-sealed key text)
 
 -- a tag that lets a body open is the body's
-let_through : (b : Bool) (x y : List ℕ) → cond b (Some x) None ≡ Some y → (b ≡ true) × (x ≡ y)
-let_through true x y e = (refl, cc)
-let_through false x y e = cc
-
 opened_by_tag-only : (key body tag text : List ℕ) → opened_by_tag key body tag ≡ Some text → sealed_with_tag key text ≡ body ++ tag
 unfolding sealed_with_tag
 opened_by_tag-only key body tag text e =
-    let through = let_through (bytes_eq tag (tag_of key body)) (sealed key body) text e in
+    let through = cond_some (bytes_eq tag (tag_of key body)) (sealed key body) text e in
     let of_body : tag ≡ tag_of key body = (bytes_eq-Decides tag (tag_of key body)).0 through.0 in
     let again : sealed key text ≡ body = ap (sealed key) (sym through.1) ∙ sealed-sealed key body in
     ap₂ (λ (a b : List ℕ). a ++ b) again (ap (tag_of key) again ∙ sym of_body)

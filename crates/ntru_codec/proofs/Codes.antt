@@ -111,7 +111,7 @@ code-coefficient : (c : ℕ) → code_of (coefficient_of c) ≡ c
 code-coefficient zero = refl
 code-coefficient (suc n) = add-one n
 
-small_coefficient : (c : ℕ) → c < 3 → IsSmall (coefficient_of c)
+pub small_coefficient : (c : ℕ) → c < 3 → IsSmall (coefficient_of c)
 small_coefficient zero h = inl refl
 small_coefficient (suc zero) h = inr (inl refl)
 small_coefficient (suc (suc zero)) h = inr (inr refl)

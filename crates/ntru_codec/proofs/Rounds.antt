@@ -2,11 +2,11 @@
 use Rattle.std.proofs.Common.{◌≡◌, ◌⊎◌, inl, inr, ℕ, zero, ◌+◌, ◌-◌, ◌*◌, ◌/◌, ◌%◌, ◌^◌, ◌<◌, ◌≤◌, ◌↔◌, List, [], ◌∷◌, ◌++◌, length, take, drop, get_or, map, refl, sym, ap, ap₂, ◌∙◌, arith, append_assoc, append-nil, subst}
 use Rattle.std.specs.List.{All}
 use Rattle.std.proofs.Math.Nat.{div-one, div-lt_iff_lt-mul, one-le-pow}
-use Rattle.std.proofs.lemmas.Bool.{cases_lt}
+use Rattle.std.proofs.lemmas.Bool.{and_from, and_parts, cases_lt}
 use Rattle.std.proofs.lemmas.List.{map-append, length-map, length-take-le, take_more, get_or-take, take-take, nil_from_length, get_or-set_same, get_or-set_other, length-set, length-append, take-append-drop, take_all, take_more_same, take_at, drop_at, get_or_at, same_from_push}
 use Rattle.std.proofs.lemmas.List.Elements.{All-tail, All-cons, All-nil, All-take, All-more}
 use Rattle.std.specs.Bool.{IsTrue}
-use Rattle.std.proofs.Common.{Bool, true, false, ◌&&◌, set, ◌≢◌}
+use Rattle.std.proofs.Common.{Bool, ◌&&◌, set, ◌≢◌}
 use Rattle.std.proofs.lemmas.Nat.{mul-add-lt, same_from_place, mod_below}
 use Rattle.ntru_codec.specs.declared.moduli.Moduli.{Moduli}
 use Rattle.ntru_codec.specs.declared.moduli.Round.{Round}
@@ -337,23 +337,14 @@ pub length-row : (m : Moduli) (rs : List ℕ) → m.front < length rs → 0 < m.
 length-row m rs long some =
     omega (arith, length-append (digits m.each (take m.front rs)) (digit (get_or rs m.front 0) m.last ∷ []), length-map (take m.front rs) (λ r. digit r m.each), length-take-le m.front rs (omega arith))
 
-both_true : (a b : Bool) → IsTrue (a && b) → IsTrue a × IsTrue b
-both_true true true h = (refl, refl)
-both_true true false h = cc
-both_true false b h = cc
-
-true_both : (a b : Bool) → IsTrue a → IsTrue b → IsTrue (a && b)
-true_both true b f g = g
-true_both false b f g = cc
-
 pub round_whole : (m : Moduli) (r : Round) (old pairs rs : List ℕ) (a b : Bool) → IsRound m r → m.front < length rs → length pairs ≡ 2 * r.pairs → take (2 * r.pairs) rs ≡ take (2 * r.pairs) (pairs ++ drop (2 * r.pairs) old) → FirstsBelow m.each pairs → (IsTrue a ↔ SecondsBelow m.each pairs) → (IsTrue b ↔ IsEndBelow m.front m.each m.last rs) → IsTrue (a && b) ↔ IsBelow m.front m.each m.last rs
 round_whole m r old pairs rs a b s long len kept firsts seconds end =
     let same : take (2 * r.pairs) rs ≡ pairs = kept ∙ take_front_written pairs old (2 * r.pairs) len in (
-      λ w. let both = both_true a b w in
+      λ w. let both = and_parts a b w in
           below_from_parts m r rs s long
           (subst (λ xs. All (λ x. x < m.each) xs) (sym same) (All-from_pairs m.each pairs (omega (arith, len)) firsts (seconds.0 both.0)))
           (end.0 both.1),
-      λ w. true_both a b
+      λ w. and_from a b
           (seconds.1 (SecondsBelow-from_all m.each pairs (subst (λ xs. All (λ x. x < m.each) xs) same (pairs_below m.front m.each (2 * r.pairs) rs (omega (arith, s.pairs)) w.front_below))))
           (end.1 (end_below m rs long w)),
     )

@@ -7,7 +7,7 @@ use Rattle.ntru_codec.specs.Mixed.{Digit, digit, digits, joined, without_byte, g
 abbrev moduli : List Digit → List ℕ
 moduli ds = map (λ d. d.modulus) ds
 
-length-given_off : (n limit a b m : ℕ) → length (given_off n limit (digit a m)) ≡ length (given_off n limit (digit b m))
+pub length-given_off : (n limit a b m : ℕ) → length (given_off n limit (digit a m)) ≡ length (given_off n limit (digit b m))
 unfolding given_off
 length-given_off zero limit a b m = refl
 length-given_off (suc n) limit a b m =
@@ -16,7 +16,7 @@ length-given_off (suc n) limit a b m =
       | false ↦ refl
     ]
 
-modulus-left_over : (n limit a b m : ℕ) → (left_over n limit (digit a m)).modulus ≡ (left_over n limit (digit b m)).modulus
+pub modulus-left_over : (n limit a b m : ℕ) → (left_over n limit (digit a m)).modulus ≡ (left_over n limit (digit b m)).modulus
 unfolding left_over
 modulus-left_over zero limit a b m = refl
 modulus-left_over (suc n) limit a b m =

@@ -3,6 +3,7 @@ use Rattle.std.proofs.Common.{◌≡◌, inl, inr, ℕ, zero, suc, ◌+◌, ◌*
 use Rattle.std.specs.Bool.{nat_le}
 use Rattle.std.specs.List.{range_with_len}
 use Rattle.byteorder.specs.Endian.{little_bytes}
+use Rattle.std.proofs.lemmas.Option.{same_Some}
 use Rattle.std.proofs.lemmas.Bool.{cases_lt}
 use Rattle.std.proofs.lemmas.Bool.Decides.{nat_tests}
 use Rattle.std.proofs.lemmas.List.{length-map, length-append, length-take-le}
@@ -13,8 +14,8 @@ use Rattle.ring_laws.specs.Laws.{IsShort, is_nonzero}
 use Rattle.ntru_codec.specs.Small.{IsSmall, coefficient_of}
 use Rattle.kem_trait.specs.Streams.{Stream, behind}
 use Rattle.ntru_model.specs.Draws.{small_coefficient, small_draw, marked, inserted, ascending, short_draw, bytes_draw, Invertible, first_invertible}
-use Rattle.ntru_model.proofs.Search.{some_same}
-use Rattle.ntru_model.proofs.Small.{coefficient_small, all_small_within}
+use Rattle.ntru_codec.proofs.Codes.{small_coefficient as coefficient_small}
+use Rattle.ntru_model.proofs.Small.{all_small_within}
 use Rattle.ntru_model.proofs.Sorting.{length-ascending}
 
 -- small polynomials
@@ -156,7 +157,7 @@ first_step : (P : List ℤ → Type 0) (p : ℕ) (a : List ℤ) (invert : List �
 first_step P p a invert after others r None pa e rest h = rest h
 first_step P p a invert after others r (Some inverse) pa e rest h =
     let R : Invertible → Type 0 = λ x. P x.drawn × (invert x.drawn ≡ Some x.inverse) in
-    subst R (some_same (record { drawn = a; inverse = inverse; left = after }) r h) (pa, e)
+    subst R (same_Some (record { drawn = a; inverse = inverse; left = after }) r h) (pa, e)
 
 pub first_gives : (P : List ℤ → Type 0) (p tries : ℕ) (draw : Stream → List ℤ) (invert : List ℤ → Option (List ℤ)) (words : Stream) (r : Invertible)
     → ((u : Stream) → P (draw u)) → first_invertible p tries draw invert words ≡ Some r → P r.drawn × (invert r.drawn ≡ Some r.inverse)

@@ -4,10 +4,12 @@ use Rattle.std.specs.Bool.{nat_le}
 use Rattle.std.proofs.lemmas.Bool.Decides.{nat_tests}
 use Rattle.std.proofs.lemmas.List.{length-map, length-append}
 use Rattle.std.proofs.lemmas.List.Elements.{All-head, All-tail}
-use Rattle.std.proofs.lemmas.Nat.{same_from_place, mul-le, mul-add-lt}
+use Rattle.std.proofs.lemmas.Nat.{same_from_place, mul-le}
 use Rattle.ntru_codec.specs.Mixed.{Digit, digit, digits, without_byte, given_off, left_over, round_bytes, next_round, encoding_in, mixed_encoding}
 use Rattle.ntru_codec.specs.Small.{IsSmall, small_encoding, coefficients}
 use Rattle.ntru_codec.proofs.Lists.{same_parts}
+use Rattle.ntru_codec.proofs.Rounds.{pair_below}
+use Rattle.ntru_codec.proofs.Sizes.{length-given_off, modulus-left_over}
 use Rattle.ntru_codec.proofs.Codes.{coefficients-encoding}
 
 -- the digits that two lists of the same moduli have at one place
@@ -34,24 +36,6 @@ firsts ts = map (λ t. digit t.first t.modulus) ts
 
 abbrev seconds : List Twin → List Digit
 seconds ts = map (λ t. digit t.second t.modulus) ts
-
-length-given_off : (n limit a b m : ℕ) → length (given_off n limit (digit a m)) ≡ length (given_off n limit (digit b m))
-unfolding given_off
-length-given_off zero limit a b m = refl
-length-given_off (suc n) limit a b m =
-    elim (nat_le limit m) as (λ t. length (cond t (a % 256 ∷ given_off n limit (without_byte (digit a m))) []) ≡ length (cond t (b % 256 ∷ given_off n limit (without_byte (digit b m))) [])) [
-      | true ↦ ap suc (length-given_off n limit (a / 256) (b / 256) ((m + 255) / 256))
-      | false ↦ refl
-    ]
-
-modulus-left_over : (n limit a b m : ℕ) → (left_over n limit (digit a m)).modulus ≡ (left_over n limit (digit b m)).modulus
-unfolding left_over
-modulus-left_over zero limit a b m = refl
-modulus-left_over (suc n) limit a b m =
-    elim (nat_le limit m) as (λ t. (cond t (left_over n limit (without_byte (digit a m))) (digit a m)).modulus ≡ (cond t (left_over n limit (without_byte (digit b m))) (digit b m)).modulus) [
-      | true ↦ modulus-left_over n limit (a / 256) (b / 256) ((m + 255) / 256)
-      | false ↦ refl
-    ]
 
 -- what is given off and what is left tell the value
 value_step : (a b m : ℕ) (given others : List ℕ) (l k : Digit) (t : Bool) → (given ≡ others → l.value ≡ k.value → a / 256 ≡ b / 256)
@@ -135,9 +119,6 @@ seconds-next (t ∷ u ∷ ts) =
     (modulus-left_over 4 16384 (t.second + t.modulus * u.second) (t.first + t.modulus * u.first) (t.modulus * u.modulus))
     (seconds-next ts)
 
-joined_below : (a b m k : ℕ) → a < m → b < k → a + m * b < m * k
-joined_below a b m k h g = omega (arith, mul-add-lt b m a k g h)
-
 fine-next : (ts : List Twin) → Fine ts → Fine (next ts)
 unfolding next
 fine-next [] h = tt
@@ -149,8 +130,8 @@ fine-next (t ∷ u ∷ ts) h =
     let gl = g.few in
     let m = t.modulus * u.modulus in
     let small : t.modulus * u.modulus ≤ 65535 * 65535 = mul-le t.modulus u.modulus 65535 65535 (omega arith) (omega arith) in
-    let first = left_below 4 16384 (t.first + t.modulus * u.first) (t.modulus * u.modulus) (joined_below t.first u.first t.modulus u.modulus f.first_below g.first_below) in
-    let second = left_below 4 16384 (t.second + t.modulus * u.second) (t.modulus * u.modulus) (joined_below t.second u.second t.modulus u.modulus f.second_below g.second_below) in
+    let first = left_below 4 16384 (t.first + t.modulus * u.first) (t.modulus * u.modulus) (pair_below t.modulus u.modulus t.first u.first f.first_below g.first_below) in
+    let second = left_below 4 16384 (t.second + t.modulus * u.second) (t.modulus * u.modulus) (pair_below t.modulus u.modulus t.second u.second f.second_below g.second_below) in
     let same = modulus-left_over 4 16384 (t.second + t.modulus * u.second) (t.first + t.modulus * u.first) (t.modulus * u.modulus) in
     let few = left_few 4 16383 (t.first + t.modulus * u.first) (t.modulus * u.modulus) (omega arith) in
     (record { first_below = first; second_below = omega arith; few = omega arith }, fine-next ts h.1.1)

@@ -1,6 +1,7 @@
 -- What `find` finds, and which lists `lists_of` lists.
 use Rattle.std.proofs.Common.{◌≡◌, ◌⊎◌, inl, inr, ℕ, zero, suc, ◌+◌, ◌<◌, Bool, true, false, cond, Option, Some, None, List, [], ◌∷◌, ◌++◌, map, length, All, find, flat_map, refl, sym, ap, subst, ◌∙◌, true≢false, arith}
 use Rattle.std.specs.List.{range_with_len}
+use Rattle.std.proofs.lemmas.Option.{same_Some}
 use Rattle.std.proofs.lemmas.List.Elements.{All-nil, All-cons, All-head, All-tail}
 use Rattle.ntru_model.specs.Search.{lists_of}
 
@@ -91,11 +92,8 @@ pub not_found : {X : Type 0} (t : X → Bool) (xs : List X) → ((x : X) → Occ
 not_found t [] fails = refl
 not_found t (x ∷ xs) fails = none_step t x (find t xs) (t x) refl (fails x (inl refl)) (not_found t xs (λ y o. fails y (inr o)))
 
-pub some_same : {X : Type 0} (x y : X) → Some x ≡ Some y → x ≡ y
-some_same x y e = cc
-
 from_step : {X : Type 0} (t : X → Bool) (x b : X) (r : Option X) (v : Bool) → t x ≡ v → cond v (Some x) r ≡ Some b → ((x ≡ b) × (t b ≡ true)) ⊎ (r ≡ Some b)
-from_step t x b r true e h = let same = some_same x b h in inl (same, ap t (sym same) ∙ e)
+from_step t x b r true e h = let same = same_Some x b h in inl (same, ap t (sym same) ∙ e)
 from_step t x b r false e h = inr h
 
 -- what is found is there, and passes

@@ -1,10 +1,10 @@
 -- Small numbers.
-use Rattle.std.proofs.Common.{inl, inr, ℕ, zero, suc, ◌<◌, List, All, ℤ, pos, negsuc, refl, arith}
+use Rattle.std.proofs.Common.{inl, inr, zero, suc, List, All, ℤ, pos, negsuc, refl, arith}
 use Rattle.std.proofs.lemmas.Int.{ints}
 use Rattle.std.proofs.lemmas.List.Elements.{All-weaker}
 use Rattle.ring_poly.specs.Ring.{IsCentred, IsWithin}
 use Rattle.ring_laws.specs.Laws.{AreSmall}
-use Rattle.ntru_codec.specs.Small.{IsSmall, coefficient_of}
+use Rattle.ntru_codec.specs.Small.{IsSmall}
 
 pub small_within : (c : ℤ) → IsSmall c → IsWithin 1 c
 small_within c h =
@@ -37,9 +37,3 @@ all_centred_within a h = All-weaker (IsCentred (pos 3)) (IsWithin 1) centred_wit
 
 pub all_within_centred : (a : List ℤ) → AreSmall a → All (IsCentred (pos 3)) a
 all_within_centred a h = All-weaker (IsWithin 1) (IsCentred (pos 3)) within_centred a h
-
-pub coefficient_small : (c : ℕ) → c < 3 → IsSmall (coefficient_of c)
-coefficient_small zero h = inl refl
-coefficient_small (suc zero) h = inr (inl refl)
-coefficient_small (suc (suc zero)) h = inr (inr refl)
-coefficient_small (suc (suc (suc n))) h = absurd (omega arith)

@@ -3,6 +3,8 @@ use Rattle.std.proofs.Common.{◌≡◌, ◌⊎◌, inl, inr, ℕ, ◌+◌, ◌-
 use Rattle.std.specs.List.{list_all}
 use Rattle.std.specs.Ordering.{int_eq}
 use Rattle.std.specs.Cmp.Lexicographic.{pointwise}
+use Rattle.std.proofs.lemmas.Option.{cond_some}
+use Rattle.std.proofs.lemmas.Bool.{and_from, and_parts}
 use Rattle.std.proofs.lemmas.Int.{ints}
 use Rattle.std.proofs.lemmas.Bool.Decides.{Decides-eqb, Decides-int_eq, Decides-or, Decides-like, Decides-by_and}
 use Rattle.std.proofs.lemmas.Slice.Eq.{bytes_eq-Decides}
@@ -16,7 +18,7 @@ use Rattle.ntru_model.specs.Parameters.{Parameters, small_len, public_len, secre
 use Rattle.ntru_model.specs.Residues.{product_mod}
 use Rattle.ntru_model.specs.Encodings.{public_read, small_read}
 use Rattle.ntru_model.specs.Pairs.{hash, KeyPair, public_key, secret_key, g_of, is_small_number, is_tested, fields_read, secret_read}
-use Rattle.ntru_model.proofs.Options.{and_then_parts, map_parts, kept, both_true, true_both}
+use Rattle.ntru_model.proofs.Options.{and_then_parts, map_parts}
 use Rattle.ntru_model.proofs.Small.{within_small, all_small_within, all_within_small}
 use Rattle.ntru_model.proofs.Inverses.{same_numbers}
 use Rattle.ntru_model.proofs.Readers.{small_read-encoding, from_small_read}
@@ -57,15 +59,15 @@ small_numbers-Decides xs = Decides-by_and is_small_number (IsWithin 1) (list_all
 pub test_holds : (s : Parameters) (pair : KeyPair) → count_by is_nonzero pair.f ≡ s.w → AreSmall (g_of s pair) → product_mod s.p 3 (g_of s pair) pair.g_inverse ≡ one s.p → is_tested s pair ≡ true
 unfolding is_tested
 test_holds s pair weight small is_one =
-    true_both (nat_eq (count_by is_nonzero pair.f) s.w && list_all is_small_number (g_of s pair)) (pointwise int_eq (product_mod s.p 3 (g_of s pair) pair.g_inverse) (one s.p))
-    (true_both (nat_eq (count_by is_nonzero pair.f) s.w) (list_all is_small_number (g_of s pair)) ((Decides-eqb (count_by is_nonzero pair.f) s.w).1 weight) ((small_numbers-Decides (g_of s pair)).1 small))
+    and_from (nat_eq (count_by is_nonzero pair.f) s.w && list_all is_small_number (g_of s pair)) (pointwise int_eq (product_mod s.p 3 (g_of s pair) pair.g_inverse) (one s.p))
+    (and_from (nat_eq (count_by is_nonzero pair.f) s.w) (list_all is_small_number (g_of s pair)) ((Decides-eqb (count_by is_nonzero pair.f) s.w).1 weight) ((small_numbers-Decides (g_of s pair)).1 small))
     ((same_numbers (product_mod s.p 3 (g_of s pair) pair.g_inverse) (one s.p)).1 is_one)
 
 pub from_test : (s : Parameters) (pair : KeyPair) → is_tested s pair ≡ true → (count_by is_nonzero pair.f ≡ s.w) × AreSmall (g_of s pair) × (product_mod s.p 3 (g_of s pair) pair.g_inverse ≡ one s.p)
 unfolding is_tested
 from_test s pair h =
-    let outer = both_true (nat_eq (count_by is_nonzero pair.f) s.w && list_all is_small_number (g_of s pair)) (pointwise int_eq (product_mod s.p 3 (g_of s pair) pair.g_inverse) (one s.p)) h in
-    let inner = both_true (nat_eq (count_by is_nonzero pair.f) s.w) (list_all is_small_number (g_of s pair)) outer.0 in (
+    let outer = and_parts (nat_eq (count_by is_nonzero pair.f) s.w && list_all is_small_number (g_of s pair)) (pointwise int_eq (product_mod s.p 3 (g_of s pair) pair.g_inverse) (one s.p)) h in
+    let inner = and_parts (nat_eq (count_by is_nonzero pair.f) s.w) (list_all is_small_number (g_of s pair)) outer.0 in (
       (Decides-eqb (count_by is_nonzero pair.f) s.w).0 inner.0,
       (small_numbers-Decides (g_of s pair)).0 inner.1,
       (same_numbers (product_mod s.p 3 (g_of s pair) pair.g_inverse) (one s.p)).0 outer.1,
@@ -97,8 +99,8 @@ pub tested_from_read : (s : Parameters) (secret : List ℕ) (pair : KeyPair) →
 unfolding secret_read
 tested_from_read s secret pair set e =
     let a = and_then_parts (λ x. cond (is_tested s x && pointwise nat_eq (secret_key s x) secret) (Some x) None) (fields_read s secret) pair e in
-    let k = kept (is_tested s a.0 && pointwise nat_eq (secret_key s a.0) secret) a.0 pair a.2 in
-    let both = both_true (is_tested s a.0) (pointwise nat_eq (secret_key s a.0) secret) k.0 in
+    let k = cond_some (is_tested s a.0 && pointwise nat_eq (secret_key s a.0) secret) a.0 pair a.2 in
+    let both = and_parts (is_tested s a.0) (pointwise nat_eq (secret_key s a.0) secret) k.0 in
     let t = from_test s a.0 both.0 in
     let fields = from_fields s secret a.0 set a.1 in
     subst (λ x. IsTested s x × (secret_key s x ≡ secret)) k.1 (
@@ -210,7 +212,7 @@ rho_from_read s secret pair set e =
     let tested = tested_from_read s secret pair set e in
     let t = tested.0 in
     let a = and_then_parts (λ x. cond (is_tested s x && pointwise nat_eq (secret_key s x) secret) (Some x) None) (fields_read s secret) pair e in
-    let k = kept (is_tested s a.0 && pointwise nat_eq (secret_key s a.0) secret) a.0 pair a.2 in
+    let k = cond_some (is_tested s a.0 && pointwise nat_eq (secret_key s a.0) secret) a.0 pair a.2 in
     let fields : HasFields s secret pair = subst (HasFields s secret) k.1 (from_fields s secret a.0 set a.1) in
     let front = small_len s + small_len s + public_len s in
     let rest = drop (small_len s + small_len s + public_len s) secret in

@@ -1,6 +1,7 @@
 -- Decapsulation finds the short polynomial of a ciphertext, and the key of it.
 use Rattle.std.proofs.Common.{◌≡◌, ℕ, ◌+◌, ◌-◌, ◌*◌, ◌/◌, ◌%◌, ◌<◌, cond, true, false, Some, List, ◌++◌, length, map, take, replicate, All, nat_eq, count_by, ℤ, pos, refl, sym, ap, subst, ◌∙◌, arith}
 use Rattle.std.specs.Cmp.Lexicographic.{pointwise}
+use Rattle.std.proofs.lemmas.Option.{same_Some}
 use Rattle.std.proofs.lemmas.Int.{ints}
 use Rattle.std.proofs.lemmas.Bool.Decides.{Decides-eqb}
 use Rattle.std.proofs.lemmas.Slice.Eq.{bytes_eq-Decides}
@@ -24,7 +25,6 @@ use Rattle.ntru_model.specs.Draws.{short_draw}
 use Rattle.ntru_model.specs.Encodings.{public_read, rounded_encoding, rounded_read}
 use Rattle.ntru_model.specs.Pairs.{KeyPair, hash, g_of, public_key, secret_read}
 use Rattle.ntru_model.specs.Encapsulation.{cipher_of, key_of, refused_key, encapsulation, encapsulated, r_found, r_of, answer, decapsulated, decapsulated_by}
-use Rattle.ntru_model.proofs.Search.{some_same}
 use Rattle.ntru_model.proofs.Options.{map_parts}
 use Rattle.ntru_model.proofs.Small.{all_within_centred}
 use Rattle.ntru_model.proofs.Residues.{length-product_mod, product_mod_centred, product_mod_congruent, product_mod_is, all_congruent, rounded_list}
@@ -162,7 +162,7 @@ undone s pair r set t len short =
 pub encapsulated_is : (s : Parameters) (pair : KeyPair) (words : Stream) (e : Encapsulated) → IsSet s → IsTested s pair → encapsulated s (public_key s pair) words ≡ Some e
     → encapsulation s pair.h (public_key s pair) (short_draw s.p s.w words) ≡ e
 encapsulated_is s pair words e set t h =
-    some_same (encapsulation s pair.h (public_key s pair) (short_draw s.p s.w words)) e
+    same_Some (encapsulation s pair.h (public_key s pair) (short_draw s.p s.w words)) e
     (sym (encapsulated_by s (public_key s pair) words pair.h (public_back s pair.h set t.h_len t.h_centred)) ∙ h)
 
 pub decapsulates_law : (s : Parameters) (secret : List ℕ) (pair : KeyPair) (words : Stream) (e : Encapsulated) → IsSet s → secret_read s secret ≡ Some pair

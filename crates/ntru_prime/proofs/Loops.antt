@@ -1,5 +1,5 @@
 -- Loops that write an element at each step.
-use Rattle.std.proofs.Common.{◌≡◌, Bool, true, false, not, Option, Some, None, is_some, OnSome, All, ap, ap₂, sym, ◌∙◌, ℕ, ◌+◌, ◌*◌, ◌<◌, ◌≤◌, List, [], ◌∷◌, ◌++◌, map, take, set, length, get_or, flat_map, arith, below_more, get_or-set_other, get_or-set_same, ◌≢◌, append_assoc}
+use Rattle.std.proofs.Common.{◌≡◌, Bool, true, false, not, Option, Some, None, is_some, OnSome, All, ap, ap₂, sym, ◌∙◌, ℕ, ◌+◌, ◌*◌, ◌<◌, ◌≤◌, List, [], ◌∷◌, ◌++◌, map, take, set, length, get_or, flat_map, arith, append_assoc}
 use Rattle.std.proofs.lemmas.List.{take_more, take_more_set, map-append, take_all, length-append, length-take, append-nil}
 use Rattle.std.proofs.lemmas.List.Concat.{flat_map-cons}
 use Rattle.std.proofs.lemmas.List.Elements.{All-same, All-push, All-nil}
@@ -15,14 +15,6 @@ map_step f xs ys i d y lx ly h e =
 
 pub map_end : {A B : Type 0} (f : A → B) (xs : List A) (ys : List B) (n : ℕ) → length xs ≤ n → length ys ≤ n → take n ys ≡ map f (take n xs) → ys ≡ map f xs
 map_end f xs ys n lx ly h = sym (take_all n ys ly) ∙ h ∙ ap (map f) (take_all n xs lx)
-
--- one more element with its value
-pub each_step : (f : ℕ → ℕ) (xs : List ℕ) (i x : ℕ) → i < length xs → ((n : ℕ) → n < i → get_or xs n 0 ≡ f n) → x ≡ f i
-    → (n : ℕ) → n < i + 1 → get_or (set xs i x) n 0 ≡ f n
-each_step f xs i x lt h e =
-    below_more (λ n. get_or (set xs i x) n 0 ≡ f n) i (λ k below.
-    let ne : k ≢ i = omega arith in
-    get_or-set_other xs i k x 0 ne ∙ h k below) (get_or-set_same xs i x 0 lt ∙ e)
 
 one_of : (f : ℕ → List ℕ) (x : ℕ) → flat_map f (x ∷ []) ≡ f x
 one_of f x = flat_map-cons f x [] ∙ append-nil (f x)

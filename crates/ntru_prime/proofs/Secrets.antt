@@ -1,5 +1,6 @@
 -- Whether bytes are a secret key, by what the code tests.
-use Rattle.std.proofs.Common.{◌≡◌, refl, ap, ap₂, sym, ◌∙◌, ℕ, Bool, true, false, not, ◌&&◌, cond, Option, Some, None, is_some, List, ℤ, nat_eq}
+use Rattle.std.proofs.Math.Bool.{and-false}
+use Rattle.std.proofs.Common.{◌≡◌, refl, ap, ap₂, sym, ◌∙◌, ℕ, true, false, ◌&&◌, cond, Option, Some, None, is_some, List, ℤ, nat_eq}
 use Rattle.std.specs.Option.{option_and_then}
 use Rattle.std.specs.Cmp.Lexicographic.{pointwise, bytes_decides}
 use Rattle.ntru_model.specs.Parameters.{Parameters}
@@ -26,16 +27,12 @@ unfolding secret_read
 off_test s bytes pair e t =
     off_by s bytes (ap (option_and_then (when_tested s bytes)) (sym e) ∙ ap (λ b. cond (b && pointwise nat_eq (secret_key s pair) bytes) (Some pair) None) (sym t))
 
-and_false : (b : Bool) → (b && false) ≡ false
-and_false true = refl
-and_false false = refl
-
 pub off_same : (s : Parameters) (bytes again : List ℕ) (pair : KeyPair) → Some pair ≡ fields_read s bytes → again ≡ secret_key s pair → pointwise nat_eq again bytes ≡ false → IsOff s bytes
 unfolding secret_read
 off_same s bytes again pair e ea t =
     off_by s bytes (ap (option_and_then (when_tested s bytes)) (sym e)
     ∙ ap (λ b. cond (is_tested s pair && b) (Some pair) None) (ap (λ a. pointwise nat_eq a bytes) (sym ea) ∙ t)
-    ∙ ap (λ b. cond b (Some pair) None) (and_false (is_tested s pair)))
+    ∙ ap (λ b. cond b (Some pair) None) (and-false (is_tested s pair)))
 
 pub on_read : (s : Parameters) (bytes again : List ℕ) (pair : KeyPair) → Some pair ≡ fields_read s bytes → true ≡ is_tested s pair → again ≡ secret_key s pair → pointwise nat_eq again bytes ≡ true → secret_read s bytes ≡ Some pair
 unfolding secret_read
@@ -48,15 +45,6 @@ pub on_secret : (s : Parameters) (bytes : List ℕ) (pair : KeyPair) → secret_
     → (true ≡ true → is_secret s bytes ≡ true) × (is_secret s bytes ≡ true → true ≡ true)
 unfolding is_secret
 on_secret s bytes pair e = ((λ _. ap is_some e), (λ _. refl))
-
--- what a test for difference says
-pub differs : (r b : Bool) → r ≡ not b → r ≡ true → b ≡ false
-differs r true is here = let clash : true ≡ false = sym here ∙ is in cc
-differs r false is here = refl
-
-pub agrees : (r b : Bool) → r ≡ not b → r ≡ false → b ≡ true
-agrees r true is here = refl
-agrees r false is here = let clash : false ≡ true = sym here ∙ is in cc
 
 pub same_bytes : (xs ys : List ℕ) → pointwise nat_eq xs ys ≡ true → xs ≡ ys
 same_bytes xs ys h = (bytes_decides xs ys).0 h

@@ -1,5 +1,5 @@
 -- The test of a pair, part by part.
-use Rattle.std.proofs.Common.{◌≡◌, refl, ap, sym, ◌∙◌, Bool, true, false, ◌&&◌, List, ℤ, nat_eq}
+use Rattle.std.proofs.Common.{◌≡◌, ap, sym, ◌∙◌, Bool, true, false, ◌&&◌, List, ℤ, nat_eq}
 use Rattle.std.specs.List.{count_by, list_all}
 use Rattle.std.specs.Ordering.{int_eq}
 use Rattle.std.specs.Cmp.Lexicographic.{pointwise}
@@ -8,12 +8,6 @@ use Rattle.ring_laws.specs.Laws.{is_nonzero}
 use Rattle.ntru_model.specs.Parameters.{Parameters}
 use Rattle.ntru_model.specs.Residues.{product_mod}
 use Rattle.ntru_model.specs.Pairs.{KeyPair, is_tested, is_small_number, g_of}
-
-and_false : (b : Bool) → false ≡ (false && b)
-and_false b = refl
-
-true_and : (b : Bool) → (true && b) ≡ b
-true_and b = refl
 
 pub fails_weight : (s : Parameters) (pair : KeyPair) → nat_eq (count_by is_nonzero pair.f) s.w ≡ false → false ≡ is_tested s pair
 unfolding is_tested

@@ -93,6 +93,7 @@ fn draw<const Q: i32>(seed: u32, a: &mut [i16])
         word = word.wrapping_mul(1_664_525).wrapping_add(1_013_904_223);
         a[i] = center::<Q>((word >> 16) as i32);
     }
+    recentred::<Q>(a);
 }
 
 /// The coefficients of a fast product are those of the definition, centred.

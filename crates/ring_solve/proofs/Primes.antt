@@ -1,7 +1,7 @@
 -- The moduli are primes.
-use Rattle.std.proofs.Common.{◌≡◌, ℕ, zero, suc, ◌+◌, ◌*◌, ◌/◌, ◌%◌, ◌<◌, ◌≤◌, Bool, true, false, ◌&&◌, nat_lt, ⊎_elim, ℤ, pos, refl, sym, ap, subst, ◌∙◌, arith}
+use Rattle.std.proofs.Common.{◌≡◌, ℕ, zero, suc, ◌+◌, ◌*◌, ◌/◌, ◌%◌, ◌<◌, ◌≤◌, Bool, true, ◌&&◌, nat_lt, ⊎_elim, ℤ, pos, refl, sym, ap, subst, ◌∙◌, arith}
 use Rattle.std.proofs.lemmas.Int.{ints}
-use Rattle.std.proofs.lemmas.Bool.{cases_lt}
+use Rattle.std.proofs.lemmas.Bool.{and_parts, cases_lt}
 use Rattle.std.proofs.lemmas.Bool.Decides.{nat_tests}
 use Rattle.std.proofs.lemmas.Nat.{mul-le}
 use native.Mathlib.Nat.{add-mul-mod_self_right}
@@ -15,17 +15,12 @@ no_divisor m zero = true
 no_divisor m (suc zero) = true
 no_divisor m (suc (suc j)) = nat_lt 0 (m % suc (suc j)) && no_divisor m (suc j)
 
-both : (a b : Bool) → (a && b) ≡ true → (a ≡ true) × (b ≡ true)
-both true true e = (refl, refl)
-both true false e = (refl, e)
-both false b e = (e, absurd (cc))
-
 tested : (m b : ℕ) → no_divisor m b ≡ true → (k : ℕ) → 1 < k → k ≤ b → 0 < m % k
 unfolding no_divisor
 tested m zero e k lt le = absurd (omega arith)
 tested m (suc zero) e k lt le = absurd (omega arith)
 tested m (suc (suc j)) e k lt le =
-    let parts = both (nat_lt 0 (m % suc (suc j))) (no_divisor m (suc j)) e in
+    let parts = and_parts (nat_lt 0 (m % suc (suc j))) (no_divisor m (suc j)) e in
     ⊎_elim (λ below. tested m (suc j) parts.1 k lt (omega arith))
     (λ at. let same : suc (suc j) ≡ k = omega arith in
     subst (λ (i : ℕ). 0 < m % i) same (positive (m % suc (suc j)) parts.0))

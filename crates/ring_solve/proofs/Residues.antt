@@ -1,5 +1,6 @@
 -- Congruence of natural numbers.
-use Rattle.std.proofs.Common.{◌≡◌, ℕ, zero, suc, ◌+◌, ◌-◌, ◌*◌, ◌/◌, ◌%◌, ◌<◌, ℤ, pos, ◌*ℤ◌, ap, subst, arith}
+use Rattle.std.proofs.Common.{◌≡◌, ℕ, zero, suc, ◌+◌, ◌-◌, ◌*◌, ◌/◌, ◌%◌, ◌<◌, ◌≤◌, ℤ, pos, ◌*ℤ◌, ap, subst, arith}
+use Rattle.std.proofs.lemmas.Nat.{mul-le}
 use Rattle.std.proofs.lemmas.Int.{ints}
 use Rattle.std.proofs.Math.IntN.{pos-*ℤ-pos}
 use Rattle.ring_poly.specs.Ring.{IsCongruent}
@@ -17,6 +18,10 @@ times_congruent m a x y h =
     let P : ℤ → Type 0 = λ z. IsCongruent (pos m) z (pos (a * y)) in
     let Q : ℤ → Type 0 = λ z. IsCongruent (pos m) (pos a *ℤ pos x) z in
     subst P (pos-*ℤ-pos a x) (subst Q (pos-*ℤ-pos a y) (IsCongruent-mul (pos m) (pos a) (pos x) (pos y) h))
+
+-- a product of two numbers below 4591
+pub product_small : (a b : ℕ) → a ≤ 4590 → b ≤ 4590 → a * b ≤ 21068100
+product_small a b p q = mul-le a b 4590 4590 p q
 
 same_times : (a b c : ℕ) → a ≡ b → a * c ≡ b * c
 same_times a b c e = ap (λ x. x * c) e

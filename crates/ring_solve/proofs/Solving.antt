@@ -1,5 +1,5 @@
 -- Back substitution.
-use Rattle.std.proofs.Common.{◌≡◌, ℕ, zero, suc, ◌+◌, ◌*◌, ◌<◌, ◌≤◌, ◌≢◌, List, [], ◌∷◌, length, slice_index, set, map, sum, take, get_or, get_or-set_same, get_or-set_other, below_more, ⊎_elim, ℤ, pos, ◌+ℤ◌, ◌*ℤ◌, refl, sym, ap, subst, ◌∙◌, arith}
+use Rattle.std.proofs.Common.{◌≡◌, ℕ, zero, suc, ◌+◌, ◌*◌, ◌<◌, ◌≤◌, List, [], ◌∷◌, length, slice_index, set, map, sum, take, get_or, get_or-set_same, get_or-set_other, ⊎_elim, ℤ, pos, ◌+ℤ◌, ◌*ℤ◌, refl, sym, ap, subst, ◌∙◌, arith}
 use Rattle.std.proofs.lemmas.Int.{ints}
 use Rattle.std.proofs.lemmas.Bool.{cases_lt, cases_order, cases_eq}
 use Rattle.std.proofs.lemmas.List.{length-map, get_or-map, set_past}
@@ -83,12 +83,3 @@ set_below m xs i v lt h j =
     (cases_eq j i))
     (λ past. subst P (sym (ap (λ ys. slice_index ys j) (set_past xs i v past))) (h j))
     (cases_lt i (length xs))
-
--- what holds at each place that a loop has written
-pub written : (P : ℕ → ℕ → Type 0) (xs : List ℕ) (i y : ℕ) → i < length xs → ((k : ℕ) → k < i → P k (slice_index xs k)) → P i y → (k : ℕ) → k < i + 1 → P k (slice_index (set xs i y) k)
-written P xs i y lt h here = below_more (λ k. P k (slice_index (set xs i y) k)) i
-    (λ k below.
-    let ne : k ≢ i = omega arith in
-    let Q : ℕ → Type 0 = λ x. P k x in
-    subst Q (sym (get_or-set_other xs i k y 0 ne)) (h k below))
-    (let Q : ℕ → Type 0 = λ x. P i x in subst Q (sym (get_or-set_same xs i y 0 lt)) here)

@@ -83,6 +83,7 @@ fn draw<const M: i32>(seed: u32, a: &mut [i16])
         word = word.wrapping_mul(1_664_525).wrapping_add(1_013_904_223);
         a[i] = center::<M>((word >> 16) as i32);
     }
+    recentred::<M>(a);
 }
 
 /// The coefficients of either answer.

@@ -26,9 +26,9 @@ loop-k-preserved g c =
     let cast : to_z w16 (of_z w16 c.reduce.result) ≡ c.reduce.result = omega (arith, ints) in
     let ne : 0 ≢ k = omega arith in
     record {
-      congruent = written (λ i x. 0 < i → IsCongruent (to_z w32 g.row.Q) x (weighted b (λ j. coefficient numbers (p - 1 - i + j)))) c.loop-k.out k _ c.reduce.result (omega arith) cast c.loop-k.invariant.congruent
+      congruent = written (λ i x. 0 < i → IsCongruent (to_z w32 g.row.Q) x (weighted b (λ j. coefficient numbers (p - 1 - i + j)))) c.loop-k.out k _ c.reduce.result (pos 0) (omega arith) cast c.loop-k.invariant.congruent
           (λ _. IsCongruent-onto _ _ _ _ c.reduce.ensures.congruent (let e : to_z w64 (of_z w64 c.dot.result) ≡ c.dot.result = omega (arith, ints) in e ∙ sum ∙ same));
-      centred = written (λ i x. 0 < i → IsCentred (to_z w32 g.row.Q) x) c.loop-k.out k _ c.reduce.result (omega arith) cast c.loop-k.invariant.centred (λ _. size);
+      centred = written (λ i x. 0 < i → IsCentred (to_z w32 g.row.Q) x) c.loop-k.out k _ c.reduce.result (pos 0) (omega arith) cast c.loop-k.invariant.centred (λ _. size);
       first = get_or-set_other c.loop-k.out k 0 _ (pos 0) ne ∙ c.loop-k.invariant.first;
     }
 

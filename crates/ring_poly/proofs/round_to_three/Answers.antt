@@ -28,7 +28,7 @@ loop-i-preserved g c =
     let same = c.loop-i.invariant.same i (omega arith) in
     let size = c.center-rest.ensures.centred in
     record {
-      rounded = written (λ k x. IsRounded (coefficient a k) x) c.loop-i.a i _ (old -ℤ rest) (omega arith) (omega (arith, ints)) c.loop-i.invariant.rounded
+      rounded = written (λ k x. IsRounded (coefficient a k) x) c.loop-i.a i _ (old -ℤ rest) (pos 0) (omega arith) (omega (arith, ints)) c.loop-i.invariant.rounded
           (rounded_without old (old -ℤ rest) rest (IsCongruent-onto _ _ _ _ c.center-rest.ensures.congruent (omega (arith, ints))) size refl);
       same = λ k le. let ne : k ≢ i = omega arith in get_or-set_other c.loop-i.a i k _ (pos 0) ne ∙ c.loop-i.invariant.same k (omega arith);
     }

@@ -21,8 +21,8 @@ loop-place-preserved g c =
     let within = number_within p c.loop-place.place a c.window_number.result c.requires.within number.low number.mid number.high in
     let cast = widened_16 c.window_number.result within in
     record {
-      are = written (λ k x. x ≡ entry p a (p - 1) k) c.loop-place.numbers c.loop-place.place _ _ (omega arith) cast c.loop-place.invariant.are is;
-      within = written (λ k x. IsWithin 4590 x) c.loop-place.numbers c.loop-place.place _ _ (omega arith) cast c.loop-place.invariant.within within;
+      are = written (λ k x. x ≡ entry p a (p - 1) k) c.loop-place.numbers c.loop-place.place _ _ (pos 0) (omega arith) cast c.loop-place.invariant.are is;
+      within = written (λ k x. IsWithin 4590 x) c.loop-place.numbers c.loop-place.place _ _ (pos 0) (omega arith) cast c.loop-place.invariant.within within;
     }
 
 pub returns-clause-rows : goal.returns-clause-rows

@@ -3,16 +3,16 @@ use Rattle.std.proofs.lemmas.Nat.{mul-le, row_fits}
 use Rattle.std.proofs.lemmas.Bool.{cases_lt}
 use Rattle.std.proofs.lemmas.List.{get_or_past}
 use Rattle.ring_poly.proofs.Congruences.{IsCongruent-then, IsCongruent-back}
-use Rattle.ring_solve.proofs.Residues.{rest_congruent, congruent_by}
+use Rattle.ring_solve.proofs.Residues.{congruent_by, product_small, rest_congruent}
 use Rattle.ring_solve.proofs.Eliminates.{congruent_same, plus_congruent, vanishes_before}
 use Rattle.ring_solve.proofs.clear.Goals as goal
 
 pub overflow_mul-at : goal.overflow_mul-at
 overflow_mul-at c = let column = c.requires.lead.column in let width = c.requires.width in omega (arith, mul-le c.args.c (length c.args.row.now) 761 761 (omega arith) (omega arith))
 
--- a multiple of a number below 4591
-product : (m lead x : ℕ) → m ≤ 4591 → 0 < lead → lead < m → x < m → (m - lead) * x ≤ 21068100
-product m lead x small some below lt = mul-le (m - lead) x 4590 4590 (omega arith) (omega arith)
+-- what is added to a number of the row
+added : (m lead x : ℕ) → m ≤ 4591 → 0 < lead → x < m → (m - lead) * x ≤ 21068100
+added m lead x small some lt = product_small (m - lead) x (omega arith) (omega arith)
 
 pub add_kept-requires-clause-room : goal.add_kept-requires-clause-room
 add_kept-requires-clause-room c =
@@ -28,7 +28,7 @@ add_kept-requires-clause-room c =
       fits = λ j lt.
           let s = c.settle-taken.ensures.row.sums j in
           let few = c.settle-taken.ensures.room in
-          let t = product c.args.m c.args.lead (slice_index c.args.basis.now (c.args.c * w + j)) c.requires.small lead.some lead.below (k.below (c.args.c * w + j)) in
+          let t = added c.args.m c.args.lead (slice_index c.args.basis.now (c.args.c * w + j)) c.requires.small lead.some (k.below (c.args.c * w + j)) in
           omega arith;
     }
 
@@ -40,7 +40,7 @@ returns-clause-row c =
       sums = λ j.
           let s = c.settle-taken.ensures.row.sums j in
           let at = c.args.c * length c.args.row.now + j in
-          let t = product c.args.m c.args.lead (slice_index c.args.basis.now at) c.requires.small c.requires.lead.some c.requires.lead.below (c.requires.kept.below at) in
+          let t = added c.args.m c.args.lead (slice_index c.args.basis.now at) c.requires.small c.requires.lead.some (c.requires.kept.below at) in
           ⊎_elim (λ lt. let e = c.add_kept.ensures j (omega arith) in omega arith)
           (λ ge. let e = get_or_past c.add_kept.new.row j 0 (omega arith) in omega arith)
           (cases_lt j (length c.args.row.now));

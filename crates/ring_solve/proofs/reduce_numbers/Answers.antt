@@ -1,10 +1,10 @@
-use Rattle.std.proofs.Common.{◌<◌, length, pos, arith, ⊎_elim}
+use Rattle.std.proofs.Common.{refl, ◌<◌, length, pos, arith, ⊎_elim}
 use Rattle.std.proofs.lemmas.Bool.{cases_lt}
 use Rattle.std.proofs.lemmas.List.{get_or_past}
 use Rattle.ring_poly.specs.Ring.{IsCongruent, coefficient}
 use Rattle.ring_poly.proofs.Casts.{widened_16}
 use Rattle.ring_poly.proofs.Congruences.{IsCongruent-onto}
-use Rattle.ring_solve.proofs.Solving.{written}
+use Rattle.ring_poly.proofs.Writes.{written}
 use Rattle.ring_solve.proofs.reduce_numbers.Goals as goal
 
 pub loop-j-init : goal.loop-j-init
@@ -12,8 +12,8 @@ loop-j-init c = record { below = λ k lt. absurd (omega arith); congruent = λ k
 
 pub loop-j-preserved : goal.loop-j-preserved
 loop-j-preserved c = record {
-  below = written (λ k x. x < c.args.m) c.loop-j.residues c.loop-j.j c.residue.result (omega arith) c.loop-j.invariant.below c.residue.ensures.below;
-  congruent = written (λ k x. IsCongruent (pos c.args.m) (pos x) (coefficient c.args.numbers.now k)) c.loop-j.residues c.loop-j.j c.residue.result (omega arith) c.loop-j.invariant.congruent (IsCongruent-onto _ _ _ _ c.residue.ensures.congruent (widened_16 _ (c.requires.within c.loop-j.j)));
+  below = written (λ k x. x < c.args.m) c.loop-j.residues c.loop-j.j _ c.residue.result 0 (omega arith) refl c.loop-j.invariant.below c.residue.ensures.below;
+  congruent = written (λ k x. IsCongruent (pos c.args.m) (pos x) (coefficient c.args.numbers.now k)) c.loop-j.residues c.loop-j.j _ c.residue.result 0 (omega arith) refl c.loop-j.invariant.congruent (IsCongruent-onto _ _ _ _ c.residue.ensures.congruent (widened_16 _ (c.requires.within c.loop-j.j)));
 }
 
 pub returns-clause-below : goal.returns-clause-below

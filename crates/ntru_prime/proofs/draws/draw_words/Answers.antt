@@ -1,5 +1,5 @@
-use Rattle.std.proofs.Common.{◌≡◌, suc, ◌+◌, arith, ap, ◌∙◌, sym, zero-add, add-zero}
-use Rattle.ntru_prime.proofs.Loops.{each_step}
+use Rattle.std.proofs.Common.{◌≡◌, suc, ◌+◌, arith, ap, ◌∙◌, sym, zero-add, add-zero, refl}
+use Rattle.ring_poly.proofs.Writes.{written}
 use Rattle.ntru_prime.proofs.draws.draw_words.Goals as goal
 
 pub loop-i-init : goal.loop-i-init
@@ -10,6 +10,6 @@ loop-i-preserved g c =
     let i = c.loop-i.i in
     let u = g.V.Words.upcoming c.args.words.now in
     record {
-      drawn = each_step u c.loop-i.into i _ (omega arith) c.loop-i.invariant.drawn (c.next.ensures.word ∙ c.loop-i.invariant.left 0 ∙ ap u (add-zero i));
+      drawn = written (λ n word. word ≡ u n) c.loop-i.into i _ _ 0 (omega arith) refl c.loop-i.invariant.drawn (c.next.ensures.word ∙ c.loop-i.invariant.left 0 ∙ ap u (add-zero i));
       left = λ n. c.next.ensures.left n ∙ c.loop-i.invariant.left (suc n) ∙ ap u (let e : i + suc n ≡ i + 1 + n = omega arith in e);
     }

@@ -1,5 +1,6 @@
 use Rattle.std.proofs.Common.{◌≡◌, ap, sym, ◌∙◌, ◌+◌, ◌/◌, take, drop, Some, to_z, w32, arith, rules, nat_eq, true}
 use Rattle.std.specs.Cmp.Lexicographic.{pointwise}
+use Rattle.std.proofs.lemmas.Bool.{not-false, not-true}
 use Rattle.std.proofs.lemmas.Grind.{common_steps}
 use Rattle.std.proofs.lemmas.List.Elements.{All-same}
 use Rattle.ntru_codec.specs.Small.{IsSmall}
@@ -7,7 +8,7 @@ use Rattle.ntru_model.specs.Pairs.{KeyPair, fields_read, is_tested, secret_key, 
 use Rattle.ntru_prime.specs.Sets.{set_of, parameters, pair_with}
 use Rattle.ntru_prime.proofs.Loops.{on_some, is_there}
 use Rattle.ntru_prime.proofs.Encapsulates.{read_some, read_none}
-use Rattle.ntru_prime.proofs.Secrets.{off_fields, off_test, off_same, on_read, on_secret, differs, agrees, same_bytes, tested_same, key_same, read_as}
+use Rattle.ntru_prime.proofs.Secrets.{off_fields, off_test, off_same, on_read, on_secret, same_bytes, tested_same, key_same, read_as}
 use Rattle.ntru_prime.proofs.reading.from_secret.Goals as goal
 
 pub returns-then-is_none-clause-tested : goal.returns-then-is_none-clause-tested
@@ -47,7 +48,7 @@ returns-then-ne-clause-tested g c =
     let key : c.in_ok-again.again.items ≡ secret_key s pair =
     c.in_ok-again.ensures ∙ key_same s c.as_slice.result.now _ c.as_slice-2.result.now _ c.as_slice-3.result.now _ c.part.result.now _ f_key g_key h_key rho in
     off_same s c.args.secret.now c.in_ok-again.again.items pair read key
-    (ap (λ l. pointwise nat_eq l c.args.secret.now) (sym c.as_slice-7.ensures.value) ∙ differs c.ne.result _ c.ne.ensures c.if-ne.true)
+    (ap (λ l. pointwise nat_eq l c.args.secret.now) (sym c.as_slice-7.ensures.value) ∙ not-true _ (sym c.ne.ensures ∙ c.if-ne.true))
 
 pub returns-clause-tested : goal.returns-clause-tested
 returns-clause-tested g c =
@@ -68,14 +69,14 @@ returns-clause-tested g c =
     let key : c.in_ok-again.again.items ≡ secret_key s pair =
     c.in_ok-again.ensures ∙ key_same s c.as_slice.result.now _ c.as_slice-2.result.now _ c.as_slice-3.result.now _ c.part.result.now _ f_key g_key h_key rho in
     let bytes : pointwise nat_eq c.in_ok-again.again.items c.args.secret.now ≡ true =
-    ap (λ l. pointwise nat_eq l c.args.secret.now) (sym c.as_slice-7.ensures.value) ∙ agrees c.ne.result _ c.ne.ensures c.if-ne.false in
+    ap (λ l. pointwise nat_eq l c.args.secret.now) (sym c.as_slice-7.ensures.value) ∙ not-false _ (sym c.ne.ensures ∙ c.if-ne.false) in
     let whole : secret_read s c.args.secret.now ≡ Some pair = on_read s c.args.secret.now c.in_ok-again.again.items pair read (sym c.if-not-is_tested.false ∙ test) key bytes in
     on_secret s c.args.secret.now pair whole
 
 pub returns-clause-same : goal.returns-clause-same
 returns-clause-same g c =
     same_bytes c.in_ok-again.again.items c.args.secret.now
-    (ap (λ l. pointwise nat_eq l c.args.secret.now) (sym c.as_slice-7.ensures.value) ∙ agrees c.ne.result _ c.ne.ensures c.if-ne.false)
+    (ap (λ l. pointwise nat_eq l c.args.secret.now) (sym c.as_slice-7.ensures.value) ∙ not-false _ (sym c.ne.ensures ∙ c.if-ne.false))
 
 pub invariant_of-result : goal.invariant_of-result
 invariant_of-result g c =
@@ -96,7 +97,7 @@ invariant_of-result g c =
     let key : c.in_ok-again.again.items ≡ secret_key s pair =
     c.in_ok-again.ensures ∙ key_same s c.as_slice.result.now _ c.as_slice-2.result.now _ c.as_slice-3.result.now _ c.part.result.now _ f_key g_key h_key rho in
     let bytes : pointwise nat_eq c.in_ok-again.again.items c.args.secret.now ≡ true =
-    ap (λ l. pointwise nat_eq l c.args.secret.now) (sym c.as_slice-7.ensures.value) ∙ agrees c.ne.result _ c.ne.ensures c.if-ne.false in
+    ap (λ l. pointwise nat_eq l c.args.secret.now) (sym c.as_slice-7.ensures.value) ∙ not-false _ (sym c.ne.ensures ∙ c.if-ne.false) in
     let whole : secret_read s c.args.secret.now ≡ Some pair = on_read s c.args.secret.now c.in_ok-again.again.items pair read (sym c.if-not-is_tested.false ∙ test) key bytes in
     let f_made : c.from_vec.result ≡ c.read_fields-spells.new.f = first_of (search rules, grind (arith, common_steps)) in
     let g_made : c.from_vec-2.result ≡ c.read_fields-spells.new.g_inverse = first_of (search rules, grind (arith, common_steps)) in

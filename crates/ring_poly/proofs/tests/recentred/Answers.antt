@@ -13,7 +13,7 @@ pub loop-i-preserved : goal.loop-i-preserved
 loop-i-preserved g c =
     let size = c.center.ensures.centred in
     let cast : to_z w16 (of_z w16 c.center.result) ≡ c.center.result = omega (arith, ints) in
-    written (λ k x. IsCentred (to_z w32 g.row.Q) x) c.loop-i.a c.loop-i.i _ c.center.result (omega arith) cast c.loop-i.invariant size
+    written (λ k x. IsCentred (to_z w32 g.row.Q) x) c.loop-i.a c.loop-i.i _ c.center.result (pos 0) (omega arith) cast c.loop-i.invariant size
 
 pub returns : goal.returns
 returns g c = All-from_get_or (IsCentred (to_z w32 g.row.Q)) c.loop-i.a (pos 0) (λ k lt. c.loop-i.invariant k (omega arith))
