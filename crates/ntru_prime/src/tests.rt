@@ -1,27 +1,43 @@
-//! Values of another program, which has the definitions by plain loops and inverses by elimination. The calls stand in small
-//! functions without clauses.
+//! Values of another program, which has the definitions by plain loops and inverses by elimination. The calls stand in
+//! small functions without clauses, and the values in tables.
 use crate::{Drill37, Sntrup761, TestedPair};
 use kem_trait::{Kem, KemRefusal, ListWords, SeedWords, Words};
 use sha2::{Digest, Sha256};
 use std::alloc::Global;
 use std::test::Fail;
 
-/// The secret key that 32 zero bytes give as `SeedWords`, then a ciphertext of the words behind it, and its key.
-const SECRET: &str =
-    "5951515544555565150110610429818242458201057e131693b3d4036098682857eb7d96e9b6dac0cc92070b0f7f32981f3d084f0416442b4783a0e984860c100c453effd392e6c8e0568ae442e8723153d163a6525acbd8176d1a66535d92";
+/// The secret key that 32 zero bytes give as `SeedWords`: f, the inverse of g, the public key, rho and its hash.
+const SECRET: &str = concat!(
+    "59515155445555651501",
+    "10610429818242458201",
+    "057e131693b3d4036098682857eb7d96e9b6dac0cc92070b0f7f32981f3d084f04",
+    "16442b4783a0e984860c",
+    "100c453effd392e6c8e0568ae442e8723153d163a6525acbd8176d1a66535d92",
+);
 
-const CIPHER: &str =
-    "27be8bf550d16addbc9172d43a444bb9304edef9b5df406033018c78af67d966f0f76b1340f072db19f4c77f81815ec718c88c12793ebed7a577";
-
-const KEY: &str = "d10b507dd52cb5c94368c37fc45913861153e0ca3fcdb432bcc6ab4167f761d2";
+/// A ciphertext of the words behind it.
+const CIPHER: &str = concat!(
+    "27be8bf550d16addbc9172d43a444bb9304edef9b5df40603301",
+    "8c78af67d966f0f76b1340f072db19f4c77f81815ec718c88c12793ebed7a577",
+);
 
 /// The secret key that 32 bytes of 1 give.
-const SECOND: &str =
-    "195595556555959655015109185008585a99aa02e603978bb94736712051456423837c3b894942efb1415bb487570f0d2234dbb0053b412128d7418d4e4e6ea1e2463ed7c6ba8e3cd849d8934f8678748127aa93788ec3d2dce2956f855502";
+const SECOND: &str = concat!(
+    "19559555655595965501",
+    "5109185008585a99aa02",
+    "e603978bb94736712051456423837c3b894942efb1415bb487570f0d2234dbb005",
+    "3b412128d7418d4e4e6e",
+    "a1e2463ed7c6ba8e3cd849d8934f8678748127aa93788ec3d2dce2956f855502",
+);
 
 /// The secret key of g = -1, f = x^30 + .. + x^36 and a rho of zeros.
-const LISTED: &str =
-    "55555555555555a5aa025455555555555555550191e77a283720fa71c20558f3f599a2e77a28d7ba5b365edb277d41a70c4f42db050000000000000000000005df836a656df509c88ec8d2ebe454d464dcc6052978ab3f29718f97cc7a1ccd";
+const LISTED: &str = concat!(
+    "55555555555555a5aa02",
+    "54555555555555555501",
+    "91e77a283720fa71c20558f3f599a2e77a28d7ba5b365edb277d41a70c4f42db05",
+    "00000000000000000000",
+    "05df836a656df509c88ec8d2ebe454d464dcc6052978ab3f29718f97cc7a1ccd",
+);
 
 /// A word of coefficient 0.
 const ZERO: u32 = 0x2000_0000;
@@ -48,8 +64,8 @@ fn word_of(draw: u32, place: u32, bad_g: u32, bad_f: u32) -> u32 {
     0
 }
 
-/// The words of so many draws of g without an inverse and one with an inverse, of so many draws of f without and one with an
-/// inverse, and zeros.
+/// The words of so many draws of g without an inverse and one with an inverse, of so many draws of f without and one
+/// with an inverse, and zeros.
 fn draws(bad_g: u32, bad_f: u32) -> [u32; 1300] {
     let mut words = [0; 1300];
     for i in 0..1300 {
@@ -59,79 +75,108 @@ fn draws(bad_g: u32, bad_f: u32) -> [u32; 1300] {
     words
 }
 
-/// Whether the bytes are those of the digits.
-fn are(alloc: Global, bytes: &[u8], digits: &str) -> Result<bool, Fail> {
-    Ok(hex::encode(alloc, bytes)?.as_str() == digits)
-}
-
-fn secret_of(pair: &TestedPair<37>) -> [u8; 95] {
+/// The digits of the secret key of a pair. The error is a public key that isn't the one in it.
+fn secret_of(alloc: Global, pair: &TestedPair<37>) -> Result<String, Fail> {
     let mut secret = [0; 95];
     Drill37::secret(pair, &mut secret);
-    secret
-}
-
-fn public_of(pair: &TestedPair<37>) -> [u8; 33] {
     let mut public = [0; 33];
     Drill37::public(pair, &mut public);
-    public
+    if public.as_slice() != &secret[20..53] {
+        return Err("another public key".into());
+    }
+    Ok(hex::encode(alloc, &secret)?)
 }
 
-/// The pair that words give. None where they give none.
-fn pair_of<W: Words>(alloc: Global, words: &mut W) -> Result<Option<TestedPair<37>>, Fail> {
+/// The digits of the secret key of the pair that words give. Empty where they give none.
+fn made<W: Words>(alloc: Global, words: &mut W) -> Result<String, Fail> {
     match Drill37::make(alloc, words) {
-        Ok(pair) => Ok(Some(pair)),
-        Err(KemRefusal::NoUsableKey) => Ok(None),
+        Ok(pair) => secret_of(alloc, &pair),
+        Err(KemRefusal::NoUsableKey) => Ok(String::new(alloc)),
         Err(KemRefusal::Memory) => Err("memory was wanting".into()),
     }
 }
 
-/// The pairs of many sources. None where some words give none.
-fn pairs_of<W: Words>(
-    alloc: Global,
-    sources: &mut [W],
-) -> Result<Option<Vec<TestedPair<37>>>, Fail> {
-    match Drill37::make_many(alloc, sources) {
-        Ok(pairs) => Ok(Some(pairs.into_vec())),
-        Err(KemRefusal::NoUsableKey) => Ok(None),
-        Err(KemRefusal::Memory) => Err("memory was wanting".into()),
-    }
+fn made_of_draws(alloc: Global, row: &DrawnPair) -> Result<String, Fail> {
+    let words = draws(row.bad_g, row.bad_f);
+    let mut source = ListWords::new(&words);
+    made(alloc, &mut source)
 }
+
+/// How many draws of g and of f have no inverse, and the secret key, if there is one.
+struct DrawnPair {
+    bad_g: u32,
+    bad_f: u32,
+    secret: &'static str,
+}
+
+const DRAWN: [DrawnPair; 5] = [
+    DrawnPair {
+        bad_g: 1,
+        bad_f: 0,
+        secret: LISTED,
+    },
+    DrawnPair {
+        bad_g: 15,
+        bad_f: 15,
+        secret: LISTED,
+    },
+    DrawnPair {
+        bad_g: 16,
+        bad_f: 0,
+        secret: "",
+    },
+    DrawnPair {
+        bad_g: 0,
+        bad_f: 16,
+        secret: "",
+    },
+    DrawnPair {
+        bad_g: 15,
+        bad_f: 16,
+        secret: "",
+    },
+];
 
 #[test]
 fn pairs_of_words(rt: HostRuntime) -> Result<(), Fail> {
-    // How many draws of g and of f have no inverse, and whether there is a pair.
-    for (bad_g, bad_f, there) in [
-        (1, 0, true),
-        (15, 15, true),
-        (16, 0, false),
-        (0, 16, false),
-        (15, 16, false),
-    ] {
-        match pair_of(rt.alloc(), &mut ListWords::new(&draws(bad_g, bad_f)))? {
-            None => assert!(rt; !there, "{bad_g} and {bad_f}"),
-            Some(pair) => {
-                let secret = secret_of(&pair);
-                assert!(rt; there, "{bad_g} and {bad_f}");
-                assert!(rt; are(rt.alloc(), &secret, LISTED)?);
-                assert_eq!(rt; public_of(&pair).as_slice(), &secret[20..53]);
-            }
-        }
+    for row in &DRAWN {
+        let secret = made_of_draws(rt.alloc(), row)?;
+        assert_eq!(rt;
+            secret.as_str(),
+            row.secret,
+            "{} and {}",
+            row.bad_g,
+            row.bad_f
+        );
     }
     Ok(())
 }
 
-#[test]
-fn pairs_of_many_sources(rt: HostRuntime) -> Result<(), Fail> {
+/// The digits of the secret keys of the pairs of many sources. None where some words give none.
+fn made_many<W: Words>(alloc: Global, sources: &mut [W]) -> Result<Option<Vec<String>>, Fail> {
+    let pairs = match Drill37::make_many(alloc, sources) {
+        Ok(pairs) => pairs.into_vec(),
+        Err(KemRefusal::NoUsableKey) => return Ok(None),
+        Err(KemRefusal::Memory) => return Err("memory was wanting".into()),
+    };
+    let mut secrets = Vec::new(alloc);
+    for pair in pairs.iter() {
+        secrets.push(secret_of(alloc, pair)?)?;
+    }
+    Ok(Some(secrets))
+}
+
+fn made_of_seeds(alloc: Global) -> Result<Option<Vec<String>>, Fail> {
     let mut seeds = [
         SeedWords::new(&[0; 32]),
         SeedWords::new(&[1; 32]),
         SeedWords::new(&[0; 32]),
     ];
-    let pairs = pairs_of(rt.alloc(), &mut seeds)?.ok_or("each gives a pair")?;
-    assert_eq!(rt; pairs.len(), 3);
-    for (pair, want) in pairs.iter().zip([SECRET, SECOND, SECRET].iter()) {
-        assert!(rt; are(rt.alloc(), &secret_of(pair), want)?);
-    }
+    made_many(alloc, &mut seeds)
+}
+
+/// Where the second of three sources gives no pair.
+fn made_of_lists(alloc: Global) -> Result<Option<Vec<String>>, Fail> {
     let usable = draws(0, 0);
     let none = draws(0, 16);
     let mut lists = [
@@ -139,7 +184,17 @@ fn pairs_of_many_sources(rt: HostRuntime) -> Result<(), Fail> {
         ListWords::new(&none),
         ListWords::new(&usable),
     ];
-    assert!(rt; pairs_of(rt.alloc(), &mut lists)?.is_none());
+    made_many(alloc, &mut lists)
+}
+
+#[test]
+fn pairs_of_many_sources(rt: HostRuntime) -> Result<(), Fail> {
+    let secrets = made_of_seeds(rt.alloc())?.ok_or("each gives a pair")?;
+    assert_eq!(rt; secrets.len(), 3);
+    for (secret, want) in secrets.iter().zip([SECRET, SECOND, SECRET].iter()) {
+        assert_eq!(rt; secret.as_str(), *want);
+    }
+    assert!(rt; made_of_lists(rt.alloc())?.is_none());
     Ok(())
 }
 
@@ -147,7 +202,8 @@ fn pairs_of_many_sources(rt: HostRuntime) -> Result<(), Fail> {
 fn sent(alloc: Global) -> Result<(TestedPair<37>, [u8; 58], [u8; 32]), Fail> {
     let mut words = SeedWords::new(&[0; 32]);
     let pair = Drill37::make(alloc, &mut words)?;
-    let public = public_of(&pair);
+    let mut public = [0; 33];
+    Drill37::public(&pair, &mut public);
     if !Drill37::public_ok(&public) {
         return Err("a public key".into());
     }
@@ -156,144 +212,257 @@ fn sent(alloc: Global) -> Result<(TestedPair<37>, [u8; 58], [u8; 32]), Fail> {
     Ok((pair, cipher, key))
 }
 
+/// The digits of the ciphertext, and those of its key.
+fn sent_digits(alloc: Global) -> Result<(String, String), Fail> {
+    let (_, cipher, key) = sent(alloc)?;
+    Ok((hex::encode(alloc, &cipher)?, hex::encode(alloc, &key)?))
+}
+
 fn found(pair: &TestedPair<37>, cipher: &[u8; 58]) -> Option<[u8; 32]> {
     Drill37::decap(pair, cipher)
 }
 
-/// The ciphertext with a bit changed in the byte at a place.
-fn changed(cipher: &[u8; 58], place: usize) -> [u8; 58] {
-    let mut changed = *cipher;
-    if let Some(byte) = changed.get_mut(place) {
-        *byte ^= 1;
+/// The digits of the key that the owner finds in the ciphertext with these bits changed in the byte at a place. The
+/// error is that it is none, or another one the second time.
+fn found_in(alloc: Global, place: usize, bits: u8) -> Result<String, Fail> {
+    let (pair, mut cipher, _) = sent(alloc)?;
+    if let Some(byte) = cipher.get_mut(place) {
+        *byte ^= bits;
     }
-    changed
+    let key = found(&pair, &cipher).ok_or("it is spelled")?;
+    if found(&pair, &cipher) != Some(key) {
+        return Err("another key".into());
+    }
+    Ok(hex::encode(alloc, &key)?)
 }
 
-fn is_public(public: &[u8; 33]) -> bool {
-    Drill37::public_ok(public)
+/// A byte of the ciphertext, the bits that are changed in it, and the key that the owner finds.
+struct Changed {
+    place: usize,
+    bits: u8,
+    key: &'static str,
 }
+
+const KEY: &str = "d10b507dd52cb5c94368c37fc45913861153e0ca3fcdb432bcc6ab4167f761d2";
+
+/// Unchanged, and with a changed bit in the polynomial and in the hash.
+const CHANGED: [Changed; 7] = [
+    Changed {
+        place: 0,
+        bits: 0,
+        key: KEY,
+    },
+    Changed {
+        place: 0,
+        bits: 1,
+        key: "63786a07702c2f8b4629d5385b72071920150b3bea5f2541ac9eee9e8fe6ff43",
+    },
+    Changed {
+        place: 13,
+        bits: 1,
+        key: "728ec6e8051cbd4b8ee69049c9ae9d70fb4417c4e1b0e0c22bd7c77032088743",
+    },
+    Changed {
+        place: 25,
+        bits: 1,
+        key: "e8325fd181f81bdccb2b5aa0a582daabc0c39dbb4ec72c2d874b8062879dda3a",
+    },
+    Changed {
+        place: 26,
+        bits: 1,
+        key: "374830120299237cf4a37488ecaa8766d2cbb5efe7754f2e14fdfa7a60725e47",
+    },
+    Changed {
+        place: 41,
+        bits: 1,
+        key: "51143050df29d3ad957231ceebcb2653ea9c8fa85557faa5f12f26789065977b",
+    },
+    Changed {
+        place: 57,
+        bits: 1,
+        key: "fcef3d5145c89bf3eea2af405f78c1c0fdc5b69d369a84ad53b005c1d74bdcf2",
+    },
+];
 
 #[test]
 fn the_owner_finds_the_key(rt: HostRuntime) -> Result<(), Fail> {
-    let (pair, cipher, key) = sent(rt.alloc())?;
-    assert!(rt; are(rt.alloc(), &cipher, CIPHER)?);
-    assert!(rt; are(rt.alloc(), &key, KEY)?);
-    assert!(rt; found(&pair, &cipher) == Some(key));
-    // A changed bit, in the polynomial and in the hash.
-    let rows = [
-        (
-            0,
-            "63786a07702c2f8b4629d5385b72071920150b3bea5f2541ac9eee9e8fe6ff43",
-        ),
-        (
-            13,
-            "728ec6e8051cbd4b8ee69049c9ae9d70fb4417c4e1b0e0c22bd7c77032088743",
-        ),
-        (
-            25,
-            "e8325fd181f81bdccb2b5aa0a582daabc0c39dbb4ec72c2d874b8062879dda3a",
-        ),
-        (
-            26,
-            "374830120299237cf4a37488ecaa8766d2cbb5efe7754f2e14fdfa7a60725e47",
-        ),
-        (
-            41,
-            "51143050df29d3ad957231ceebcb2653ea9c8fa85557faa5f12f26789065977b",
-        ),
-        (
-            57,
-            "fcef3d5145c89bf3eea2af405f78c1c0fdc5b69d369a84ad53b005c1d74bdcf2",
-        ),
-    ];
-    for (place, want) in rows {
-        let refused = found(&pair, &changed(&cipher, place)).ok_or("it is spelled")?;
-        assert!(rt; are(rt.alloc(), &refused, want)?, "at {place}");
-        assert!(rt; found(&pair, &changed(&cipher, place)) == Some(refused));
+    let (cipher, key) = sent_digits(rt.alloc())?;
+    assert_eq!(rt; cipher.as_str(), CIPHER);
+    assert_eq!(rt; key.as_str(), KEY);
+    for row in &CHANGED {
+        let key = found_in(rt.alloc(), row.place, row.bits)?;
+        assert_eq!(rt; key.as_str(), row.key, "at {}", row.place);
     }
-    // Each digit at its greatest, and one more in the last byte.
-    let mut public = [0; 33];
-    hex::decode_to_slice(
-        "007e007e007e007e007e007e007e007e007e037e037e037e037e7de0e048731206",
-        &mut public,
-    )?;
-    assert!(rt; is_public(&public));
-    public[32] = 7;
-    assert!(rt; !is_public(&public));
-    let mut cipher = [0; 58];
-    hex::decode_to_slice(
-        "b0b0b0b0b0b0b0b0b0387f387f387f387f38830e830e0ffebc01",
-        &mut cipher[..26],
-    )?;
-    assert!(rt; found(&pair, &cipher).is_some());
-    cipher[25] = 2;
-    assert!(rt; found(&pair, &cipher).is_none());
     Ok(())
 }
 
-/// The secret key of the pair that is read from a secret key. None where it is that of no tested pair.
-fn read_again(alloc: Global, secret: &[u8; 95]) -> Result<Option<[u8; 95]>, Fail> {
-    match Drill37::pair_from_secret(alloc, secret)? {
-        Some(pair) => Ok(Some(secret_of(&pair))),
-        None => Ok(None),
-    }
+/// Whether these digits are those of a public key.
+fn is_public(digits: &str) -> Result<bool, Fail> {
+    let mut public = [0; 33];
+    hex::decode_to_slice(digits, &mut public)?;
+    Ok(Drill37::public_ok(&public))
+}
+
+/// Whether these digits and a hash of zeros are a ciphertext.
+fn is_cipher(alloc: Global, digits: &str) -> Result<bool, Fail> {
+    let (pair, _, _) = sent(alloc)?;
+    let mut cipher = [0; 58];
+    hex::decode_to_slice(digits, &mut cipher[..26])?;
+    Ok(found(&pair, &cipher).is_some())
 }
 
 #[test]
-fn only_tested_pairs_are_read(rt: HostRuntime) -> Result<(), Fail> {
-    let rows = [
-        (SECRET, true),
-        // Another f of the same weight, and another inverse.
-        (
-            "5651515544555565150110610429818242458201057e131693b3d4036098682857eb7d96e9b6dac0cc92070b0f7f32981f3d084f0416442b4783a0e984860c100c453effd392e6c8e0568ae442e8723153d163a6525acbd8176d1a66535d92",
-            false,
-        ),
-        (
-            "5951515544555565150111610429818242458201057e131693b3d4036098682857eb7d96e9b6dac0cc92070b0f7f32981f3d084f0416442b4783a0e984860c100c453effd392e6c8e0568ae442e8723153d163a6525acbd8176d1a66535d92",
-            false,
-        ),
-        // An f of weight 6, and one of weight 8: all else is as it should be.
-        (
-            "aa5a55555555555555015455555555555555550154002a002abf54002a002abf54002a002abf0bbdd6e120320bbdbe20202392080300000000000000000000f7179588aa85abeecdf1ec130f4a19b32b93eb28eaf0f86feba3daeca41cc043",
-            false,
-        ),
-        (
-            "aaaa555555555555550154555555555555555501f468c4531269c4531269c4531269c453126975e475e475e475e41df6f6e80a77040000000000000000000011fa9281c675812a73c2e2a77287f5593b178f5f9bc03ece4c5970180d45f1c8",
-            false,
-        ),
-        // A byte that is no coefficients in f and in the inverse, and a public key that is none.
-        (
-            "ff51515544555565150110610429818242458201057e131693b3d4036098682857eb7d96e9b6dac0cc92070b0f7f32981f3d084f0416442b4783a0e984860c100c453effd392e6c8e0568ae442e8723153d163a6525acbd8176d1a66535d92",
-            false,
-        ),
-        (
-            "59515155445555651501ff610429818242458201057e131693b3d4036098682857eb7d96e9b6dac0cc92070b0f7f32981f3d084f0416442b4783a0e984860c100c453effd392e6c8e0568ae442e8723153d163a6525acbd8176d1a66535d92",
-            false,
-        ),
-        (
-            "5951515544555565150110610429818242458201007e007e007e007e007e007e007e007e007e037e037e037e037e7de0e04873120716442b4783a0e984860c100c453effd392e6c8e0568ae442e8723153d163a6525acbd8176d1a66535d92",
-            false,
-        ),
-        // Another rho, and another hash of the public key.
-        (
-            "5951515544555565150110610429818242458201057e131693b3d4036098682857eb7d96e9b6dac0cc92070b0f7f32981f3d084f0417442b4783a0e984860c100c453effd392e6c8e0568ae442e8723153d163a6525acbd8176d1a66535d92",
-            true,
-        ),
-        (
-            "5951515544555565150110610429818242458201057e131693b3d4036098682857eb7d96e9b6dac0cc92070b0f7f32981f3d084f0416442b4783a0e984860c100c453effd392e6c8e0568ae442e8723153d163a6525acbd8176d1a66535d93",
-            false,
-        ),
-    ];
-    for (digits, tested) in rows {
-        let mut secret = [0; 95];
-        hex::decode_to_slice(digits, &mut secret)?;
-        match read_again(rt.alloc(), &secret)? {
-            None => assert!(rt; !tested, "{digits}"),
-            Some(again) => {
-                assert!(rt; tested, "{digits}");
-                assert_eq!(rt; again.as_slice(), secret.as_slice());
+fn the_greatest_digits(rt: HostRuntime) -> Result<(), Fail> {
+    // Each digit at its greatest, and one more in the last byte.
+    assert!(rt; is_public("007e007e007e007e007e007e007e007e007e037e037e037e037e7de0e048731206")?);
+    assert!(rt; !is_public("007e007e007e007e007e007e007e007e007e037e037e037e037e7de0e048731207")?);
+    assert!(rt;
+        is_cipher(
+            rt.alloc(),
+            "b0b0b0b0b0b0b0b0b0387f387f387f387f38830e830e0ffebc01"
+        )?
+    );
+    assert!(rt;
+        !is_cipher(
+            rt.alloc(),
+            "b0b0b0b0b0b0b0b0b0387f387f387f387f38830e830e0ffebc02"
+        )?
+    );
+    Ok(())
+}
+
+/// Whether these digits are those of the secret key of a tested pair. The error is that its pair has another one.
+fn is_read(alloc: Global, digits: &str) -> Result<bool, Fail> {
+    let mut secret = [0; 95];
+    hex::decode_to_slice(digits, &mut secret)?;
+    match Drill37::pair_from_secret(alloc, &secret)? {
+        None => Ok(false),
+        Some(pair) => {
+            let again = secret_of(alloc, &pair)?;
+            if again.as_str() != digits {
+                return Err("another secret key".into());
             }
+            Ok(true)
         }
+    }
+}
+
+/// A secret key, and whether it is that of a tested pair.
+struct Secret {
+    digits: &'static str,
+    tested: bool,
+}
+
+const SECRETS: [Secret; 10] = [
+    Secret {
+        digits: SECRET,
+        tested: true,
+    },
+    // Another f of the same weight, and another inverse.
+    Secret {
+        digits: concat!(
+            "56515155445555651501",
+            "10610429818242458201",
+            "057e131693b3d4036098682857eb7d96e9b6dac0cc92070b0f7f32981f3d084f04",
+            "16442b4783a0e984860c",
+            "100c453effd392e6c8e0568ae442e8723153d163a6525acbd8176d1a66535d92",
+        ),
+        tested: false,
+    },
+    Secret {
+        digits: concat!(
+            "59515155445555651501",
+            "11610429818242458201",
+            "057e131693b3d4036098682857eb7d96e9b6dac0cc92070b0f7f32981f3d084f04",
+            "16442b4783a0e984860c",
+            "100c453effd392e6c8e0568ae442e8723153d163a6525acbd8176d1a66535d92",
+        ),
+        tested: false,
+    },
+    // An f of weight 6, and one of weight 8: all else is as it should be.
+    Secret {
+        digits: concat!(
+            "aa5a5555555555555501",
+            "54555555555555555501",
+            "54002a002abf54002a002abf54002a002abf0bbdd6e120320bbdbe202023920803",
+            "00000000000000000000",
+            "f7179588aa85abeecdf1ec130f4a19b32b93eb28eaf0f86feba3daeca41cc043",
+        ),
+        tested: false,
+    },
+    Secret {
+        digits: concat!(
+            "aaaa5555555555555501",
+            "54555555555555555501",
+            "f468c4531269c4531269c4531269c453126975e475e475e475e41df6f6e80a7704",
+            "00000000000000000000",
+            "11fa9281c675812a73c2e2a77287f5593b178f5f9bc03ece4c5970180d45f1c8",
+        ),
+        tested: false,
+    },
+    // A byte that is no coefficients in f and in the inverse, and a public key that is none.
+    Secret {
+        digits: concat!(
+            "ff515155445555651501",
+            "10610429818242458201",
+            "057e131693b3d4036098682857eb7d96e9b6dac0cc92070b0f7f32981f3d084f04",
+            "16442b4783a0e984860c",
+            "100c453effd392e6c8e0568ae442e8723153d163a6525acbd8176d1a66535d92",
+        ),
+        tested: false,
+    },
+    Secret {
+        digits: concat!(
+            "59515155445555651501",
+            "ff610429818242458201",
+            "057e131693b3d4036098682857eb7d96e9b6dac0cc92070b0f7f32981f3d084f04",
+            "16442b4783a0e984860c",
+            "100c453effd392e6c8e0568ae442e8723153d163a6525acbd8176d1a66535d92",
+        ),
+        tested: false,
+    },
+    Secret {
+        digits: concat!(
+            "59515155445555651501",
+            "10610429818242458201",
+            "007e007e007e007e007e007e007e007e007e037e037e037e037e7de0e048731207",
+            "16442b4783a0e984860c",
+            "100c453effd392e6c8e0568ae442e8723153d163a6525acbd8176d1a66535d92",
+        ),
+        tested: false,
+    },
+    // Another rho, and another hash of the public key.
+    Secret {
+        digits: concat!(
+            "59515155445555651501",
+            "10610429818242458201",
+            "057e131693b3d4036098682857eb7d96e9b6dac0cc92070b0f7f32981f3d084f04",
+            "17442b4783a0e984860c",
+            "100c453effd392e6c8e0568ae442e8723153d163a6525acbd8176d1a66535d92",
+        ),
+        tested: true,
+    },
+    Secret {
+        digits: concat!(
+            "59515155445555651501",
+            "10610429818242458201",
+            "057e131693b3d4036098682857eb7d96e9b6dac0cc92070b0f7f32981f3d084f04",
+            "16442b4783a0e984860c",
+            "100c453effd392e6c8e0568ae442e8723153d163a6525acbd8176d1a66535d93",
+        ),
+        tested: false,
+    },
+];
+
+#[test]
+fn only_tested_pairs_are_read(rt: HostRuntime) -> Result<(), Fail> {
+    for row in &SECRETS {
+        assert_eq!(rt;
+            is_read(rt.alloc(), row.digits)?,
+            row.tested,
+            "{}",
+            row.digits
+        );
     }
     Ok(())
 }
@@ -314,49 +483,46 @@ fn large_sent(alloc: Global) -> Result<([u8; 1763], [u8; 1039], [u8; 32]), Fail>
     Ok((secret, cipher, key))
 }
 
-/// The key that the owner of a secret key finds.
-fn large_found(alloc: Global, secret: &[u8; 1763], cipher: &[u8; 1039]) -> Result<[u8; 32], Fail> {
+/// The digits of the key that the owner of a secret key finds.
+fn large_found(alloc: Global, secret: &[u8; 1763], cipher: &[u8; 1039]) -> Result<String, Fail> {
     let pair = Sntrup761::pair_from_secret(alloc, secret)?.ok_or("it is tested")?;
-    Ok(Sntrup761::decap(&pair, cipher).ok_or("it is spelled")?)
+    let key = Sntrup761::decap(&pair, cipher).ok_or("it is spelled")?;
+    Ok(hex::encode(alloc, &key)?)
 }
+
+fn digest(alloc: Global, bytes: &[u8]) -> Result<String, Fail> {
+    Ok(hex::encode(alloc, &Sha256::digest(bytes))?)
+}
+
+/// The digests of the secret key and of the ciphertext, its key, and the keys that its owner finds in it and where a bit
+/// of its hash is changed.
+fn large_values(alloc: Global) -> Result<[String; 5], Fail> {
+    let (secret, mut cipher, key) = large_sent(alloc)?;
+    let sent = digest(alloc, &cipher)?;
+    let found = large_found(alloc, &secret, &cipher)?;
+    cipher[1038] ^= 1;
+    Ok([
+        digest(alloc, &secret)?,
+        sent,
+        hex::encode(alloc, &key)?,
+        found,
+        large_found(alloc, &secret, &cipher)?,
+    ])
+}
+
+const LARGE: [&str; 5] = [
+    "0624f159ae7e906ebc8d827e97e4f554a97dfe262f4c9cbb38343377eea7de01",
+    "2111f7b461dd32a9dda955b4de24e601416b5ac9b47d3086e1bf8122202c9014",
+    "44b3f19020fbac473b1cfdb0c41fbc47d9d64d579ef3de013103ea6c8b2c3b79",
+    "44b3f19020fbac473b1cfdb0c41fbc47d9d64d579ef3de013103ea6c8b2c3b79",
+    "c87d96e5d95d9515fbf5aa4219185ec9b13cfb819df8fe5fd0516e31b8fcc430",
+];
 
 #[test]
 fn the_larger_set(rt: HostRuntime) -> Result<(), Fail> {
-    let (secret, mut cipher, key) = large_sent(rt.alloc())?;
-    assert!(rt;
-        are(
-            rt.alloc(),
-            &digest(&secret),
-            "0624f159ae7e906ebc8d827e97e4f554a97dfe262f4c9cbb38343377eea7de01"
-        )?
-    );
-    assert!(rt;
-        are(
-            rt.alloc(),
-            &digest(&cipher),
-            "2111f7b461dd32a9dda955b4de24e601416b5ac9b47d3086e1bf8122202c9014"
-        )?
-    );
-    assert!(rt;
-        are(
-            rt.alloc(),
-            &key,
-            "44b3f19020fbac473b1cfdb0c41fbc47d9d64d579ef3de013103ea6c8b2c3b79"
-        )?
-    );
-    assert!(rt; large_found(rt.alloc(), &secret, &cipher)? == key);
-    cipher[1038] ^= 1;
-    let refused = large_found(rt.alloc(), &secret, &cipher)?;
-    assert!(rt;
-        are(
-            rt.alloc(),
-            &refused,
-            "c87d96e5d95d9515fbf5aa4219185ec9b13cfb819df8fe5fd0516e31b8fcc430"
-        )?
-    );
+    let values = large_values(rt.alloc())?;
+    for (value, want) in values.iter().zip(LARGE.iter()) {
+        assert_eq!(rt; value.as_str(), *want);
+    }
     Ok(())
-}
-
-fn digest(bytes: &[u8]) -> [u8; 32] {
-    Sha256::digest(bytes)
 }
