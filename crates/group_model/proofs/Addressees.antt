@@ -1,20 +1,20 @@
--- Addressees do not depend on the id of the message.
+-- Addressees depend neither on the id of the message nor on its body's digest.
 use Rattle.std.proofs.Common.{◌≡◌, true, false, inl, inr, List, ◌∷◌, refl, sym, ◌∙◌, ap, subst}
-use Rattle.group_model.specs.Sets.{Id, In, here, there}
+use Rattle.group_model.specs.Sets.{Bytes, Id, In, here, there}
 use Rattle.group_model.specs.Messages.{Kind, Create, Update, Remove, Add, Ack, AddAck, Text, Message, History, past, IsHistory}
 use Rattle.group_model.specs.Membership.{IsMembershipRule, InView, IsRecipient, IsSeeded, IsAddressee, AreAddressees}
 use Rattle.group_model.proofs.ListFacts.{In-cases}
 use Rattle.group_model.proofs.Pasts.{with_past-history}
 use Rattle.group_model.proofs.Valids.{past-self, past-older}
 
-module _ (rule : History → List Id) (is_rule : IsMembershipRule rule) (h : History) (m : Message) (i : Id)
-    (g : IsHistory (m ∷ h)) (k : IsHistory (record m { id = i } ∷ h)) where
+module _ (rule : History → List Id) (is_rule : IsMembershipRule rule) (h : History) (m : Message)
+    (i : Id) (b : Bytes) (g : IsHistory (m ∷ h)) (k : IsHistory (record m { id = i; body = b } ∷ h)) where
   abbrev renamed : Message
-  renamed = record m { id = i }
+  renamed = record m { id = i; body = b }
 
   view_moves : (x : Id) → InView rule (m ∷ h) m x → InView rule (renamed ∷ h) renamed x
   view_moves x v = subst (λ z. In x (rule (renamed ∷ z))) (sym (past-self renamed h k))
-      (is_rule.newest_id_unread (past h m.predecessors) m i x
+      (is_rule.newest_digests_unread (past h m.predecessors) m i b x
       (subst (λ z. IsHistory (m ∷ z)) (past-self m h g) (with_past-history (m ∷ h) g here))
       (subst (λ z. IsHistory (renamed ∷ z)) (past-self renamed h k) (with_past-history (renamed ∷ h) k here))
       (subst (λ z. In x (rule (m ∷ z))) (past-self m h g) v))
@@ -61,11 +61,11 @@ module _ (rule : History → List Id) (is_rule : IsMembershipRule rule) (h : His
   ]
   addressee_moves Text e y a = a
 
-pub addressees_move : (rule : History → List Id) → IsMembershipRule rule → (h : History) (m : Message) (i : Id) (ids : List Id)
-    → IsHistory (m ∷ h) → IsHistory (record m { id = i } ∷ h) → AreAddressees rule (m ∷ h) m ids
-    → AreAddressees rule (record m { id = i } ∷ h) (record m { id = i }) ids
-addressees_move rule r h m i ids g k a = record {
+pub addressees_move : (rule : History → List Id) → IsMembershipRule rule → (h : History) (m : Message) (i : Id) (b : Bytes) (ids : List Id)
+    → IsHistory (m ∷ h) → IsHistory (record m { id = i; body = b } ∷ h) → AreAddressees rule (m ∷ h) m ids
+    → AreAddressees rule (record m { id = i; body = b } ∷ h) (record m { id = i; body = b }) ids
+addressees_move rule r h m i b ids g k a = record {
   ascending = a.ascending;
-  all = λ y d. a.all y (addressee_moves rule r h (record m { id = i }) m.id k g m.kind refl y d);
-  only = λ y j. addressee_moves rule r h m i g k m.kind refl y (a.only y j);
+  all = λ y d. a.all y (addressee_moves rule r h (record m { id = i; body = b }) m.id m.body k g m.kind refl y d);
+  only = λ y j. addressee_moves rule r h m i b g k m.kind refl y (a.only y j);
 }

@@ -64,7 +64,8 @@ same-kind k l e = cc
 
 abbrev pub message_eq : Message → Message → Bool
 message_eq a b = both (bytes_eq a.id b.id) (both (nat_eq a.set b.set) (both (bytes_eq a.group b.group) (both (bytes_eq a.sender b.sender)
-    (both (nat_eq a.seq b.seq) (both (kind_eq a.kind b.kind) (ids_eq a.predecessors b.predecessors))))))
+    (both (nat_eq a.seq b.seq) (both (kind_eq a.kind b.kind)
+    (both (ids_eq a.predecessors b.predecessors) (bytes_eq a.body b.body)))))))
 
 pub same-message_eq : (a b : Message) → message_eq a b ≡ true → a ≡ b
 same-message_eq a b e =
@@ -74,12 +75,23 @@ same-message_eq a b e =
     let n = both-true (bytes_eq a.sender b.sender) _ m.1 in
     let o = both-true (nat_eq a.seq b.seq) _ n.1 in
     let p = both-true (kind_eq a.kind b.kind) _ o.1 in
+    let q = both-true (ids_eq a.predecessors b.predecessors) _ p.1 in
     same-fields a b ((says-same a.id b.id).holds k.0) ((says-equal a.set b.set).holds l.0) ((says-same a.group b.group).holds m.0)
-    ((says-same a.sender b.sender).holds n.0) ((says-equal a.seq b.seq).holds o.0) (same-kind a.kind b.kind p.0) ((says-ids a.predecessors b.predecessors).holds p.1)
+    ((says-same a.sender b.sender).holds n.0) ((says-equal a.seq b.seq).holds o.0) (same-kind a.kind b.kind p.0) ((says-ids a.predecessors b.predecessors).holds q.0)
+    ((says-same a.body b.body).holds q.1)
   where
     same-fields : (a b : Message) → a.id ≡ b.id → a.set ≡ b.set → a.group ≡ b.group → a.sender ≡ b.sender → a.seq ≡ b.seq → a.kind ≡ b.kind
-        → a.predecessors ≡ b.predecessors → a ≡ b
-    same-fields a b i s g e n k p = λ j. record { id = i j; set = s j; group = g j; sender = e j; seq = n j; kind = k j; predecessors = p j }
+        → a.predecessors ≡ b.predecessors → a.body ≡ b.body → a ≡ b
+    same-fields a b i s g e n k p d = λ j. record {
+      id = i j;
+      set = s j;
+      group = g j;
+      sender = e j;
+      seq = n j;
+      kind = k j;
+      predecessors = p j;
+      body = d j;
+    }
 
 -- who is named
 abbrev pub is_named : History → Id → Bool

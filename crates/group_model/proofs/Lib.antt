@@ -9,11 +9,13 @@ pub mod PastsInside
 pub mod Addressees
 pub mod Senders
 pub mod Pairs
+pub mod Opening
 pub mod Worlds
 pub mod InSetting
 pub mod Knowing
 pub mod Unforked
 pub mod LogLaws
+pub mod TextsAlone
 pub mod Latest
 pub mod Agreement
 pub mod Parts

@@ -114,7 +114,7 @@ drop-by_new : (below n : ℕ) → below ≤ n → drop_by false n below ≡ n + 
 unfolding drop_by
 drop-by_new below n h = rw (lt-ltb below (n + 1) (omega arith)) refl
 
-drop-by_sender : (n below : ℕ) → drop_by true n below ≡ below
+pub drop-by_sender : (n below : ℕ) → drop_by true n below ≡ below
 unfolding drop_by
 drop-by_sender n below = refl
 
@@ -126,7 +126,7 @@ drop-by_more false n below = elim (test (nat_lt below (n + 1))) [
   | no_is d ↦ rw d (omega arith)
 ]
 
-not_below : (n below : ℕ) → below ≤ n → nat_lt n below ≡ false
+pub not_below : (n below : ℕ) → below ≤ n → nat_lt n below ≡ false
 not_below n below h = elim (test (nat_lt n below)) [
   | yes_is d ↦ let l : n < below = ltb-true n below d in absurd (omega arith)
   | no_is d ↦ d

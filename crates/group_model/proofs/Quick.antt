@@ -9,7 +9,7 @@ use Rattle.group_model.specs.KeyTerms.{turned_known, secret_known, chain_after, 
 use Rattle.group_model.specs.Settings.{Setting}
 use Rattle.group_model.specs.Packets.{Addressed, Given}
 use Rattle.group_model.specs.Logs.{LogEntry, Joined, Took, Made, header_of, Log}
-use Rattle.group_model.specs.Knowledge.{prior_of, prior_chain, answer_by, motion_known, text_opened, known as known_by, answer_known as answer_known_by, learnt_of as learnt_of_by, chain_known as chain_known_by, text_of as text_of_by}
+use Rattle.group_model.specs.Knowledge.{prior_of, prior_chain, answer_by, motion_known, text_by, text_opened, known as known_by, answer_known as answer_known_by, learnt_of as learnt_of_by, chain_known as chain_known_by, text_of as text_of_by}
 use Rattle.group_model.specs.Parts.{parts_of}
 use Rattle.group_model.proofs.InSetting.{ratchet_before, seed_known, forwarded, known, answer_known, learnt_at, learnt_of, chain_known, text_at, text_of, payload_sent, part_with, part_sent}
 use Rattle.group_model.proofs.ListFacts.{yes_is, no_is, test}
@@ -108,12 +108,14 @@ module _ (G : Setting) where
 
   abbrev pub quick_text : (self : Id) → LogEntry → Log → Option Bytes
   quick_text self (Joined p) l = None
-  quick_text self (Took p) l = text_opened G.primitives (quick_chain self l p.header.sender) p.sealed
-  quick_text self (Made p t) l = Some t.text
+  quick_text self (Took p) l =
+      text_by p.header.kind (text_opened G.primitives (quick_chain self l p.header.sender) p.sealed)
+  quick_text self (Made p t) l = text_by p.header.kind (Some t.text)
 
   quick_text-at : (self : Id) (e : LogEntry) (l : Log) → quick_text self e l ≡ text_at G self e l
   quick_text-at self (Joined p) l = refl
-  quick_text-at self (Took p) l = ap (λ z. text_opened G.primitives z p.sealed) (quick_chain-known self l p.header.sender)
+  quick_text-at self (Took p) l =
+      ap (λ z. text_by p.header.kind (text_opened G.primitives z p.sealed)) (quick_chain-known self l p.header.sender)
   quick_text-at self (Made p t) l = refl
 
   unfoldable pub quick_text_of : (self : Id) → Log → Message → Option Bytes

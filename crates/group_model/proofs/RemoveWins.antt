@@ -254,8 +254,8 @@ remove_wins-rule = record {
           | inr j ↦ b.stays (record { by = r.by; there_is = j; removes = r.removes })
         ];
       });
-  newest_id_unread = λ p m i x g h k. IsMember-remove_wins (record m { id = i } ∷ p) x
-      (kinds_alone m (record m { id = i }) p x refl (remove_wins-IsMember (m ∷ p) x k));
+  newest_digests_unread = λ p m i b x g h k. IsMember-remove_wins (record m { id = i; body = b } ∷ p) x
+      (kinds_alone m (record m { id = i; body = b }) p x refl (remove_wins-IsMember (m ∷ p) x k));
   others_stay = λ p m x g w n. (
     λ k. IsMember-remove_wins p x (without_newest m p x n (remove_wins-IsMember (m ∷ p) x k)),
     λ k. IsMember-remove_wins (m ∷ p) x (with_newest m p x n (remove_wins-IsMember p x k)),

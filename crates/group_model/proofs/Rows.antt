@@ -1,5 +1,5 @@
 -- Rows of the plain program, and the messages that they stand for.
-use Rattle.std.proofs.Common.{Bool, IsTrue, Result, Ok, Err, IfOk, ◌≡◌, ◌≢◌, ℕ, zero, suc, ◌+◌, ◌-◌, ◌<◌, ◌≤◌, false, ◌⊎◌, inl, inr, List, [], ◌∷◌, ◌++◌, refl, sym, ◌∙◌, subst, ap, take, drop, length, get_or, arith, append_assoc, add-one, drop-cons}
+use Rattle.std.proofs.Common.{Bool, IsTrue, Result, Ok, Err, IfOk, ◌≡◌, ◌≢◌, ℕ, zero, suc, ◌+◌, ◌<◌, ◌≤◌, false, ◌⊎◌, inl, inr, List, [], ◌∷◌, ◌++◌, refl, sym, ◌∙◌, subst, ap, take, drop, length, get_or, arith, append_assoc, add-one, drop-cons}
 use Rattle.std.specs.declared.alloc.AllocError.{AllocError}
 use Rattle.std.proofs.lemmas.List.{take_more, take_all}
 use Rattle.group_model.specs.Sets.{Id, In, here, there, has}

@@ -8,7 +8,7 @@ use Rattle.group_model.specs.KeyTerms.{bytes, secret, message_key}
 use Rattle.group_model.specs.Packets.{Packet, Given}
 use Rattle.group_model.specs.Logs.{LogEntry, Joined, Took, Made, packet_of, header_of, Log, hist}
 use Rattle.group_model.specs.Settings.{Setting, card_of}
-use Rattle.group_model.specs.Knowledge.{text_sealed, text_opened}
+use Rattle.group_model.specs.Knowledge.{text_by, text_sealed, text_opened}
 use Rattle.group_model.specs.Worlds.{Turns, log_of, Turn, Moment, now, once}
 use Rattle.group_model.specs.SharedSecrets.{ratchet, answer_term, motion_of}
 use Rattle.group_model.specs.LawfulWorlds.{MayLeave, IsLawful}
@@ -151,7 +151,7 @@ module _ (G : Setting) where
       let s : p.header.sender ≡ x = sender_is G mo l in
       let same : SameMoment G k.packet p k.given t k.before v =
       one_moment G (subst (λ z. Moment w z (Made k.packet k.given) k.before) s k.moment) mo l k.is in
-      ap (λ (z : Given). Some z.text) (sym same.randoms)
+      ap (λ z. text_by z (Some t.text)) text ∙ ap (λ (z : Given). Some z.text) (sym same.randoms)
   text_here w l x (Took p) v mo text k cl see =
       let right : AllRight G w = all_right G w l (record { each = λ y f b n. pays G y f b (lawful_under G l n) }) in
       let chains : AllChain G w = all_chain G w l right (λ y f b n. pays G y f b (lawful_under G l n)) in
@@ -170,7 +170,8 @@ module _ (G : Setting) where
       let sealed : text_sealed G.primitives (chain_known G x (log_of v x) p.header.sender) k.given.text ≡ Some p.sealed =
       ap (λ z. text_sealed G.primitives z k.given.text) (reader ∙ sym maker)
       ∙ mq.text (ap (λ (z : Message). z.kind) k.is ∙ text) ∙ ap (λ (z : Packet). Some z.sealed) (sym same.packets) in
-      opened-sealed G (chain_known G x (log_of v x) p.header.sender) k.given.text p.sealed sealed
+      ap (λ z. text_by z (text_opened G.primitives (chain_known G x (log_of v x) p.header.sender) p.sealed)) text
+      ∙ opened-sealed G (chain_known G x (log_of v x) p.header.sender) k.given.text p.sealed sealed
 
   texts_agreed : (w : Turns) → IsLawful G w → (x : Id) (m : Message) → IsEntitled G w x m → m.kind ≡ Text → (k : MadeBy w m)
       → text_of G x (log_of w x) m ≡ Some k.given.text

@@ -2,14 +2,15 @@
 -- The DCGKA paper's correctness of key agreement, for every history with an honest past;
 -- docs/PROMISES.md, "Agreement".
 use Rattle.std.specs.Prelude.{◌≡◌, ◌∷◌, Option, Some, option_map}
-use Rattle.group_model.specs.Sets.{Id, In}
+use Rattle.group_model.specs.Sets.{Bytes, Id, In}
 use Rattle.group_model.specs.Messages.{Text, Message, History, with_past}
 use Rattle.group_model.specs.Membership.{InView}
 use Rattle.group_model.specs.KeyTerms.{Term, bytes, secret}
-use Rattle.group_model.specs.Settings.{Setting, card_of}
+use Rattle.group_model.specs.Settings.{Setting, card_of, Owner}
 use Rattle.group_model.specs.Packets.{Packet, Given}
-use Rattle.group_model.specs.Logs.{Made, hist}
+use Rattle.group_model.specs.Logs.{Made, Log, hist}
 use Rattle.group_model.specs.Knowledge.{known_of, learnt_of, text_of}
+use Rattle.group_model.specs.LawfulLogs.{IsLawfulLog}
 use Rattle.group_model.specs.Worlds.{Turns, log_of, Moment}
 use Rattle.group_model.specs.SharedSecrets.{motion_of, ratchet, answer_term}
 use Rattle.group_model.specs.LawfulWorlds.{IsLawful}
@@ -54,3 +55,8 @@ EqualSecrets = (G : Setting) (w : Turns) → IsLawful G w → (x : Id) (m : Mess
 abbrev pub AuthenticTexts : Type 0
 AuthenticTexts = (G : Setting) (w : Turns) → IsLawful G w → (x : Id) (m : Message) → IsEntitled G w x m → m.kind ≡ Text
     → (k : MadeBy w m) → text_of G.primitives (card_of G x) x (log_of w x) m ≡ Some k.given.text
+
+-- with every lawful log a member has a text of those messages alone that are texts
+abbrev pub TextsAlone : Type 0
+TextsAlone = (O : Owner) (l : Log) (m : Message) (text : Bytes) → IsLawfulLog O l → In m (hist l)
+    → text_of O.primitives O.card O.id l m ≡ Some text → m.kind ≡ Text

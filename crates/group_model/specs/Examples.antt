@@ -24,7 +24,7 @@ bob = 2 ∷ []
 abbrev pub cyd : Id
 cyd = 3 ∷ []
 
--- ids of messages
+-- ids of messages, and digests of their bodies
 abbrev pub numbered : ℕ → Id
 numbered n = n ∷ []
 
@@ -37,6 +37,7 @@ message n s q k ps = record {
   seq = q;
   kind = k;
   predecessors = ps;
+  body = numbered n;
 }
 
 -- ada creates a group with bob

@@ -57,6 +57,18 @@ handed_by_use self LeavesKeys o = None
 abbrev pub handed_by : (self : Id) → Kind → (payload : Option Bytes) → Option Bytes
 handed_by self k o = handed_by_use self (key_use k) o
 
+-- what a message has as its text: nothing where it is none
+abbrev pub text_by_use : KeyUse → (text : Option Bytes) → Option Bytes
+text_by_use SendsSeed o = None
+text_by_use (AddsMember y) o = None
+text_by_use (TakesSecret i) o = None
+text_by_use HandsRatchet o = None
+text_by_use SpendsKey o = o
+text_by_use LeavesKeys o = None
+
+abbrev pub text_by : Kind → (text : Option Bytes) → Option Bytes
+text_by k o = text_by_use (key_use k) o
+
 module _ (K : Primitives) where
   -- what a member sent to the peer in a packet of its own
   abbrev pub sent_part : (peer : Id) → Given → Option Part → List PairEvent → List PairEvent
@@ -185,11 +197,11 @@ module _ (K : Primitives) (card : KeyPair) (self : Id) where
       (chain_after K (header_of e).kind (learnt_at e l) (prior_chain e (chain_known l s)))
       (prior_chain e (chain_known l s))
 
-  -- the bytes of a text that self sent or opened; of a welcome's rows none
+  -- the bytes of a text that self sent or opened; of a welcome's rows none, and of a message that is no text none
   abbrev pub text_at : LogEntry → Log → Option Bytes
   text_at (Joined p) l = None
-  text_at (Took p) l = text_opened K (chain_known l p.header.sender) p.sealed
-  text_at (Made p t) l = Some t.text
+  text_at (Took p) l = text_by p.header.kind (text_opened K (chain_known l p.header.sender) p.sealed)
+  text_at (Made p t) l = text_by p.header.kind (Some t.text)
 
   unfoldable pub text_of : Log → Message → Option Bytes
   text_of [] m = None

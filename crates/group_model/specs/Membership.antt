@@ -1,7 +1,7 @@
 -- Who is a member, who sees a message, and where its parts go.
 -- The DCGKA paper's decentralised group membership function and its `member_view`; docs/GROUP.md, "Membership".
 use Rattle.std.specs.Prelude.{◌≡◌, ◌≢◌, ◌↔◌, true, false, cond, List, [], ◌∷◌, ◌++◌}
-use Rattle.group_model.specs.Sets.{Id, In, has, Within, IsAscending}
+use Rattle.group_model.specs.Sets.{Bytes, Id, In, has, Within, IsAscending}
 use Rattle.group_model.specs.Messages.{Kind, Create, Update, Remove, Add, Ack, AddAck, Text, Message, History, past}
 use Rattle.group_model.specs.Messages.{with_past, IsHistory}
 
@@ -49,8 +49,9 @@ pub record MovesNobody (k : Kind) : Type 0 where
 -- A membership rule computes the members of a set of messages. What agreement asks of it:
 -- members are named; who was named in a set and is out of it is out of each larger one; the answer
 -- depends on the set alone; and a message that does not remove its sender leaves it a member. What making a message
--- asks of it besides: the answer doesn't read the id of the newest message, which hashes a body that the answer goes
--- into; and a message that names and removes nobody, as an answer to an operation, moves nobody.
+-- asks of it besides: the answer reads neither the body's digest of the newest message, since the answer goes into that
+-- body, nor its id, which hashes both; and a message that names and removes nobody, as an answer to an operation, moves
+-- nobody.
 pub record IsMembershipRule (rule : History → List Id) : Type 0 where
   pub named : (p : History) (x : Id) → In x (rule p) → Named p x
   pub out_stays_out : (p q : History) (x : Id) → IsHistory p → IsHistory q → NamedOnce q → Within p q
@@ -61,9 +62,9 @@ pub record IsMembershipRule (rule : History → List Id) : Type 0 where
       → In x (rule (m ∷ []))
   pub sender_stays : (p : History) (m : Message) → IsHistory (m ∷ p) → Within p (past p m.predecessors)
       → In m.sender (rule p) → (Removes m.kind m.sender → ⊥) → In m.sender (rule (m ∷ p))
-  pub newest_id_unread : (p : History) (m : Message) (i x : Id) → IsHistory (m ∷ p)
-      → IsHistory (record m { id = i } ∷ p)
-      → In x (rule (m ∷ p)) → In x (rule (record m { id = i } ∷ p))
+  pub newest_digests_unread : (p : History) (m : Message) (i : Id) (b : Bytes) (x : Id) → IsHistory (m ∷ p)
+      → IsHistory (record m { id = i; body = b } ∷ p)
+      → In x (rule (m ∷ p)) → In x (rule (record m { id = i; body = b } ∷ p))
   pub others_stay : (p : History) (m : Message) (x : Id) → IsHistory (m ∷ p) → Within p (past p m.predecessors)
       → MovesNobody m.kind → In x (rule (m ∷ p)) ↔ In x (rule p)
 

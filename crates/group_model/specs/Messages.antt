@@ -2,7 +2,7 @@
 -- The DCGKA paper's control messages in their causal order; docs/GROUP.md, "Messages and
 -- histories".
 use Rattle.std.specs.Prelude.{◌≡◌, ℕ, Bool, cond, List, [], ◌∷◌, ◌++◌}
-use Rattle.group_model.specs.Sets.{Id, In, has, IsAscending}
+use Rattle.group_model.specs.Sets.{Bytes, Id, In, has, IsAscending}
 
 -- what a message does. `Ack` and `AddAck` name the operation that they answer
 pub data Kind : Type 0 where
@@ -14,7 +14,8 @@ pub data Kind : Type 0 where
   AddAck : (operation : Id) → Kind
   Text : Kind
 
--- a message is its header; the id is the digest of the header's bytes
+-- A message is its header; the id is the digest of the header's bytes. Among these is the digest of the body's bytes,
+-- so the body enters the id.
 pub record Message : Type 0 where
   pub id : Id
   pub set : ℕ
@@ -23,6 +24,7 @@ pub record Message : Type 0 where
   pub seq : ℕ
   pub kind : Kind
   pub predecessors : List Id
+  pub body : Bytes
 
 -- the newest message first
 abbrev pub History : Type 0

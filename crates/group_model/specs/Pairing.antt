@@ -2,10 +2,10 @@
 -- opened from the other, newest first.
 -- The DCGKA paper's two-party secure messaging, 2SM;
 -- docs/GROUP.md, "Two-party messaging".
-use Rattle.std.specs.Prelude.{◌≡◌, ℕ, ◌+◌, Bool, true, false, cond, List, [], ◌∷◌, ◌++◌, Option, Some, None, nat_lt}
-use Rattle.std.specs.Prelude.{nat_eq, option_map, codes}
+use Rattle.std.specs.Prelude.{◌≡◌, ℕ, ◌+◌, ◌<◌, Bool, true, false, cond, List, [], ◌∷◌, ◌++◌, Option, Some, None}
+use Rattle.std.specs.Prelude.{nat_lt, nat_eq, option_map, codes}
 use Rattle.std.specs.Option.{option_and_then}
-use Rattle.group_model.specs.Sets.{Bytes, Id}
+use Rattle.group_model.specs.Sets.{Bytes, Id, In}
 use Rattle.group_model.specs.Primitives.{KeyPair, Encapsulation, Content, Primitives}
 
 -- a part: which key it was sealed to (made by its sender for the receiver, or by the receiver itself,
@@ -69,6 +69,24 @@ key_at own below last false n = cond (nat_lt n below) None (own n)
 abbrev pub key_of : (card : KeyPair) → List PairEvent → Part → Option Bytes
 key_of card es part = key_at (own_key card es) (dropped es) (last_opened es) part.made_by_sender part.number
 
+-- An own key is kept: it was made, and no part was opened by it or by a later own key
+pub record IsOwnKept (card : KeyPair) (es : List PairEvent) (n : ℕ) (secret : Bytes) : Type 0 where
+  pub made : own_key card es n ≡ Some secret
+  pub undropped : (part : Part) (content : Content) → In (Opened part content) es → part.made_by_sender ≡ false
+      → part.number < n
+
+-- A key that a sender made for its receiver is kept: the last opened part brought it, and has the number
+pub record IsBroughtLast (es : List PairEvent) (n : ℕ) (secret : Bytes) : Type 0 where
+  pub content : Content
+  pub last : last_opened es ≡ Some content
+  pub number : content.number ≡ n
+  pub brings : content.secret ≡ secret
+
+-- the secret key of an origin and a number is kept
+abbrev pub IsKept : (card : KeyPair) → List PairEvent → (made_by_sender : Bool) → ℕ → (secret : Bytes) → Type 0
+IsKept card es true n secret = IsBroughtLast es n secret
+IsKept card es false n secret = IsOwnKept card es n secret
+
 -- the key that the next part is sealed to: the newest one that is known of the other side
 pub record Target : Type 0 where
   pub made_by_sender : Bool
@@ -129,6 +147,17 @@ module _ (K : Primitives) where
   -- what a part opens to
   abbrev pub opened : (card : KeyPair) → List PairEvent → Part → Option Content
   opened card es part = opened_by (key_of card es part) part
+
+  -- The part opens to the content: its key is kept, the ciphertext gives a key under which its tag agrees, and the
+  -- bytes read as the content, whose pair and keys the reading tests
+  pub record OpensTo (card : KeyPair) (es : List PairEvent) (part : Part) (content : Content) : Type 0 where
+    pub secret : Bytes
+    pub kept : IsKept card es part.made_by_sender part.number secret
+    pub key : Bytes
+    pub decapsulates : K.decapsulate secret part.ciphertext ≡ Some key
+    pub written : Bytes
+    pub unseals : K.unseal key part.sealed ≡ Some written
+    pub reads : K.read written ≡ Some content
 
   -- a pair is tested
   abbrev pub IsTested : KeyPair → Type 0

@@ -30,6 +30,7 @@ message_of r = record {
   seq = r.seq;
   kind = kind_of r.kind;
   predecessors = r.predecessors.items;
+  body = r.body;
 }
 
 -- the newest message first

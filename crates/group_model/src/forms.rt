@@ -46,11 +46,13 @@ pub fn heads_by_predecessors()
         → AreAddressees rule h m a → AreAddressees rule h m b → a ≡ b }
 {}
 
-/// The addressees of a message do not depend on its id, so a message that has no id yet has them too.
-pub fn addressees_before_the_id()
-    ensures { (rule : History → List Id) → IsMembershipRule rule → (h : History) (m : Message) (i : Id) (ids : List Id)
-        → IsHistory (m ∷ h) → IsHistory (record m { id = i } ∷ h) → AreAddressees rule (m ∷ h) m ids
-        → AreAddressees rule (record m { id = i } ∷ h) (record m { id = i }) ids }
+/// The addressees of a message depend neither on its id nor on its body's digest, so a message whose body is still to
+/// be made has them too.
+pub fn addressees_before_the_body()
+    ensures { (rule : History → List Id) → IsMembershipRule rule → (h : History) (m : Message) (i : Id) (b : Bytes)
+        (ids : List Id) → IsHistory (m ∷ h) → IsHistory (record m { id = i; body = b } ∷ h)
+        → AreAddressees rule (m ∷ h) m ids
+        → AreAddressees rule (record m { id = i; body = b } ∷ h) (record m { id = i; body = b }) ids }
 {}
 
 /// The ids that a history names, in the order in which it names them, are places: each id has one, it is one id's, and

@@ -4,14 +4,14 @@ ghost use Rattle.std.specs.Prelude.{◌≡◌, ◌⊎◌, ◌↔◌, List, [], �
 ghost use Rattle.group_model.specs.Sets.{Id, In, Within};
 ghost use Rattle.group_model.specs.Messages.{Message, History, past, IsHistory, AreHeads};
 ghost use Rattle.group_model.specs.Membership.{Named, IsMember, IsMembershipRule, remove_wins as members_by_rule};
-ghost use Rattle.group_model.specs.Primitives.{KeyPair, Primitives};
-ghost use Rattle.group_model.specs.Pairing.{PairEvent, Sending, Joint, opened};
+ghost use Rattle.group_model.specs.Primitives.{KeyPair, Content, Primitives};
+ghost use Rattle.group_model.specs.Pairing.{Part, PairEvent, Sending, OpensTo, Joint, opened};
 ghost use Rattle.group_model.specs.Settings.{Setting, card_of};
 ghost use Rattle.group_model.specs.Knowledge.{known_of, learnt_of};
 ghost use Rattle.group_model.specs.Worlds.{Turns, log_of};
 ghost use Rattle.group_model.specs.LawfulWorlds.{IsLawful};
 ghost use Rattle.group_model.specs.Conduct.{MadeIsValid, MadeIsValidInWorlds, OwnRatchetKnown, OwnRatchetKnownInWorlds};
-ghost use Rattle.group_model.specs.Agreement.{IsEntitled, EqualSecrets, AuthenticTexts};
+ghost use Rattle.group_model.specs.Agreement.{IsEntitled, EqualSecrets, AuthenticTexts, TextsAlone};
 
 /// A past is the least set of messages of a history that holds the predecessors and theirs. It depends on the
 /// message alone, and a message whose predecessors are the heads has the whole history in its past.
@@ -42,11 +42,17 @@ pub fn remove_wins()
     ensures set_alone { (p q : History) (x : Id) → Within p q → Within q p → IsMember p x → IsMember q x }
 {}
 
-/// Where each of two members takes the other's parts in the order sent, each part opens to its content, however
-/// the two directions cross.
+/// Where each of two members takes the other's parts in the order sent, each part opens to its content, from the first
+/// to the second and from the second to the first, however the two directions cross: this rests on the laws of the
+/// primitives and on the order. Whatever came before, and with no law of the primitives, a part opens exactly where its
+/// key is kept, its ciphertext gives a key, its tag agrees, and its bytes read as a content.
 pub fn parts_open()
-    ensures { (K : Primitives) (a b : KeyPair) (ea eb : List PairEvent) (s : Sending) (qa qb : List Sending)
+    ensures to_second { (K : Primitives) (a b : KeyPair) (ea eb : List PairEvent) (s : Sending) (qa qb : List Sending)
         → Joint K a b ea eb (s ∷ qa) qb → opened K b eb s.part ≡ Some s.content }
+    ensures to_first { (K : Primitives) (a b : KeyPair) (ea eb : List PairEvent) (s : Sending) (qa qb : List Sending)
+        → Joint K a b ea eb qa (s ∷ qb) → opened K a ea s.part ≡ Some s.content }
+    ensures exactly { (K : Primitives) (card : KeyPair) (es : List PairEvent) (part : Part) (content : Content)
+        → (opened K card es part ≡ Some content) ↔ OpensTo K card es part content }
 {}
 
 /// In every lawful world a member knows, of each message that it is entitled to, the ratchet and the update secret
@@ -60,9 +66,11 @@ pub fn equal_secrets()
         ≡ learnt_of G.primitives (card_of G y) y (log_of w y) m) }
 {}
 
-/// In every lawful world a member has, of each text that it is entitled to, the bytes that the sender sent.
+/// In every lawful world a member has, of each text that it is entitled to, the bytes that the sender sent. With every
+/// lawful log it has a text of texts alone.
 pub fn authentic_texts()
-    ensures { AuthenticTexts }
+    ensures as_sent { AuthenticTexts }
+    ensures of_texts_alone { TextsAlone }
 {}
 
 /// With every lawful log, and so in every lawful world, what a member makes that answers at once is valid over its

@@ -5,7 +5,7 @@ use Rattle.std.proofs.lemmas.Bool.Decides.{Decides-eqb, nat_tests}
 use Rattle.std.proofs.lemmas.List.{get_or_append_left, get_or_at, get_or-drop}
 use Rattle.group_model.specs.Sets.{Bytes}
 use Rattle.group_model.specs.Primitives.{KeyPair, Content, Primitives}
-use Rattle.group_model.specs.Pairing.{Part, Draws, PairEvent, Sent, Opened, Target, target, sends, own_key, drop_by, dropped, last_opened, secret_if, key_at, sealed_part, part_to, opened_by, opened}
+use Rattle.group_model.specs.Pairing.{Part, Draws, PairEvent, Sent, Opened, Target, sends, own_key, drop_by, dropped, last_opened, secret_if, key_at, sealed_part, part_to, opened_by, opened}
 use Rattle.member_book.specs.PairStates.{Brought, PairState, at_start, after_send, drops, after_open, brought_if, kept_key, brought, PairStands, next_part, opens_to}
 
 less : (m n : ℕ) → m < n → nat_lt m n ≡ true

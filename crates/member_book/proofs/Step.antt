@@ -8,7 +8,7 @@ use Rattle.group_model.specs.Pairing.{draws, Draws, part_to}
 use Rattle.group_model.specs.Settings.{Owner}
 use Rattle.group_model.specs.Packets.{Packet, Given, part_for}
 use Rattle.group_model.specs.Logs.{LogEntry, Joined, Took, Made, header_of, rows_of, Log, hist}
-use Rattle.group_model.specs.Knowledge.{or_else, prior_of, prior_chain, handed_by, heard_part, heard, sent_part, payload_in, answer_by, motion_known, text_opened}
+use Rattle.group_model.specs.Knowledge.{or_else, prior_of, prior_chain, handed_by, heard_part, heard, sent_part, payload_in, answer_by, motion_known, text_by, text_opened}
 use Rattle.group_model.proofs.ListFacts.{In-nothing}
 use Rattle.group_model.proofs.Parts.{gives, gives_none, present}
 use Rattle.group_model.proofs.Views.{same_or_not}
@@ -222,7 +222,8 @@ module _ (O : Owner) (l : Log) (b : BookState) (k : BookStands O l b) where
 
   pub opens_same : (e : LogEntry) → text_in O e b ≡ text_at O e l
   opens_same (Joined p) = refl
-  opens_same (Took p) = ap (λ z. text_opened O.primitives z p.sealed) (k.chains p.header.sender)
+  opens_same (Took p) =
+      ap (λ z. text_by p.header.kind (text_opened O.primitives z p.sealed)) (k.chains p.header.sender)
   opens_same (Made p t) = refl
 
   pub sends_same : (t : Given) (kind : Kind) → ((i : Id) → kind ≡ Ack i true → MayStill O.rule (hist l) i O.id)

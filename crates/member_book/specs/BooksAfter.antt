@@ -10,7 +10,7 @@ use Rattle.group_model.specs.Pairing.{Part, Draws, draws, part_to}
 use Rattle.group_model.specs.Settings.{Owner}
 use Rattle.group_model.specs.Packets.{Packet, Given, part_for}
 use Rattle.group_model.specs.Logs.{LogEntry, Joined, Took, Made, header_of, rows_of}
-use Rattle.group_model.specs.Knowledge.{or_else, handed_by, payload_in, text_opened}
+use Rattle.group_model.specs.Knowledge.{or_else, handed_by, payload_in, text_by, text_opened}
 use Rattle.member_book.specs.Books.{BookState, hand, keep, spent, step_gives, step, chained, welcomed, open_from}
 use Rattle.member_book.specs.Books.{sealed_to}
 
@@ -98,11 +98,11 @@ module _ (O : Owner) where
   abbrev pub learned : LogEntry → BookState → Option Bytes
   learned e b = gained (header_of e).kind (header_of e) (seed_at e b) (forward_at e b) (readied e b)
 
-  -- the text that an entry has, and the bytes that a text is sent as
+  -- the text that an entry has: what a text opens to, or what was sent as it
   abbrev pub text_in : LogEntry → BookState → Option Bytes
   text_in (Joined p) b = None
-  text_in (Took p) b = text_opened O.primitives (b.chain p.header.sender) p.sealed
-  text_in (Made p t) b = Some t.text
+  text_in (Took p) b = text_by p.header.kind (text_opened O.primitives (b.chain p.header.sender) p.sealed)
+  text_in (Made p t) b = text_by p.header.kind (Some t.text)
 
   -- what the parts of a message of the owner carry, by the book before it
   abbrev pub payload_of : Given → Kind → BookState → Option Bytes

@@ -32,6 +32,8 @@ pub struct PlainMessage {
     pub seq: u32,
     pub kind: PlainKind,
     pub predecessors: Vec<[u8; 32]>,
+    /// The digest of the body.
+    pub body: [u8; 32],
 }
 
 /// Whether the list has the id.
@@ -124,6 +126,7 @@ pub fn copy(alloc: Global, row: &PlainMessage) -> Result<PlainMessage, AllocErro
         seq: row.seq,
         kind,
         predecessors,
+        body: row.body,
     })
 }
 

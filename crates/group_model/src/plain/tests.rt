@@ -36,6 +36,7 @@ fn message(
         seq,
         kind,
         predecessors: ids_of(alloc, predecessors)?,
+        body: id(number),
     })
 }
 

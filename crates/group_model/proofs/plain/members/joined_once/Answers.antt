@@ -1,4 +1,4 @@
-use Rattle.std.proofs.Common.{[], ◌+◌}
+use Rattle.std.proofs.Common.{[]}
 use Rattle.group_model.proofs.Rows.{joined-has, joined-new}
 use Rattle.group_model.proofs.plain.members.joined_once.Goals as goal
 use Rattle.group_model.proofs.plain.members.joined_once.Goals.{then-not-has+in_ok-push, else-not-has}
