@@ -5,6 +5,7 @@ pub mod Valids
 pub mod RemoveWins
 pub mod Places
 pub mod Numbers
+pub mod MarksMade
 pub mod PastsInside
 pub mod Addressees
 pub mod Senders
@@ -37,3 +38,5 @@ pub mod Play
 pub mod Toy
 pub mod Members
 pub mod Outsider
+pub mod FormsApplied
+pub mod LogsApplied

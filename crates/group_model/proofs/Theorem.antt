@@ -58,7 +58,7 @@ module _ (G : Setting) where
       by (Took p) f d = f.0.history.1 (record { by = m; there_is = i; has_id = sym d })
       by (Made p t) f d = f.history.1 (record { by = m; there_is = i; has_id = sym d })
 
-  known_of-at : {w v : Turns} {x : Id} {e : LogEntry} → Moment w x e v → IsLawful G w → (known_of G x (log_of w x) (header_of e) ≡ known G x (log_of (and_then x e v) x) (header_of e).sender)
+  pub known_of-at : {w v : Turns} {x : Id} {e : LogEntry} → Moment w x e v → IsLawful G w → (known_of G x (log_of w x) (header_of e) ≡ known G x (log_of (and_then x e v) x) (header_of e).sender)
       × (learnt_of G x (log_of w x) (header_of e) ≡ learnt_at G x e (log_of v x))
   known_of-at (now {x = x} {w = w} {e = e}) l = (
     ap (λ z. known_of G x z (header_of e)) (log-own x e w) ∙ known_of-own x e (log_of w x) (header_of e) refl ∙ ap (λ z. known G x z (header_of e).sender) (sym (log-own x e w)),
@@ -127,7 +127,7 @@ module _ (G : Setting) where
   text_of-apart : (x : Id) (e : LogEntry) (l : Log) (m : Message) → (header_of e).id ≢ m.id → text_of G x (e ∷ l) m ≡ text_of G x l m
   text_of-apart x e l m d = apart_text_of G.primitives (card_of G x) x e l m d
 
-  text_of-at : {w v : Turns} {x : Id} {e : LogEntry} → Moment w x e v → IsLawful G w
+  pub text_of-at : {w v : Turns} {x : Id} {e : LogEntry} → Moment w x e v → IsLawful G w
       → text_of G x (log_of w x) (header_of e) ≡ text_at G x e (log_of v x)
   text_of-at (now {x = x} {w = w} {e = e}) l =
       ap (λ z. text_of G x z (header_of e)) (log-own x e w) ∙ text_of-own x e (log_of w x) (header_of e) refl

@@ -19,3 +19,4 @@ pub mod Agreement
 pub mod Plain
 pub mod Conduct
 pub mod Examples
+pub mod ExampleLaws

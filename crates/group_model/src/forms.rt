@@ -15,9 +15,10 @@ ghost use Rattle.group_model.specs.Knowledge.{motion_known, seed_known, forwarde
 ghost use Rattle.group_model.specs.Knowledge.{answer_known, learnt_at, chain_known};
 ghost use Rattle.group_model.specs.Marks.{HasNumber, marked, MarksPast, IsPlace, IsCrowd};
 
-/// A past is the marked messages of its history where exactly its messages are marked. Each message has one number, and
-/// each number is one message's.
+/// A past is the marked messages of its history where exactly its messages are marked, and each past has such marks.
+/// Each message has one number, and each number is one message's.
 pub fn past_by_marks()
+    ensures there_are { (h : History) (ids : List Id) → IsHistory h → (marks : ℕ → Bool) × MarksPast h ids marks }
     ensures past { (h : History) (ids : List Id) (marks : ℕ → Bool) → IsHistory h → MarksPast h ids marks
         → marked marks h ≡ past h ids }
     ensures numbered { (h : History) (m : Message) → In m h → (i : ℕ) × HasNumber h i m }

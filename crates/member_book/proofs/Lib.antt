@@ -8,3 +8,5 @@ pub mod Owned
 pub mod Calls
 pub mod PairStates
 pub mod Places
+pub mod LogStates
+pub mod Examples

@@ -5,3 +5,4 @@ pub mod Calls
 pub mod Laws
 pub mod Places
 pub mod PairStates
+pub mod Examples

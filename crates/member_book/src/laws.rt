@@ -8,8 +8,11 @@ ghost use Rattle.member_book.specs.Places.{PlacesServe, MeetServes, KeepsEach};
 ghost use Rattle.member_book.specs.PairStates.{PairState, PairStands, at_start, after_send, after_open, next_part};
 ghost use Rattle.member_book.specs.PairStates.{opens_to};
 ghost use Rattle.std.specs.Prelude.{◌≡◌, List, [], ◌∷◌, Some};
-ghost use Rattle.group_model.specs.Sets.{Bytes};
+ghost use Rattle.group_model.specs.Sets.{Bytes, Id};
 ghost use Rattle.group_model.specs.Primitives.{KeyPair, Content, Primitives};
+ghost use Rattle.group_model.specs.Settings.{Owner};
+ghost use Rattle.group_model.specs.Logs.{Log};
+ghost use Rattle.group_model.specs.Knowledge.{events};
 ghost use Rattle.group_model.specs.Pairing.{Part, Draws, PairEvent, Sent, Opened, part_to, opened};
 
 /// The book of no entry stands for the empty log, and after an entry that fits a book that stood for a log stands for
@@ -60,7 +63,8 @@ pub fn places_serve()
 {}
 
 /// A pairing's state is enough: it stands for the events of the pair at the start, after each send and after each part
-/// that its kept key opens; and where it stands, its next part and what a part opens to are those of the events.
+/// that its kept key opens, so there is one for each pairing of each log; and where it stands, its next part and what a
+/// part opens to are those of the events.
 pub fn a_state_serves_a_pairing()
     ensures starts { (card : KeyPair) (theirs : Bytes) → PairStands card theirs [] (at_start card.secret theirs) }
     ensures sends { (card : KeyPair) (theirs : Bytes) (es : List PairEvent) (k : PairState) (d : Draws)
@@ -68,6 +72,8 @@ pub fn a_state_serves_a_pairing()
     ensures opens { (K : Primitives) (card : KeyPair) (theirs : Bytes) (es : List PairEvent) (k : PairState)
         (part : Part) (content : Content) → PairStands card theirs es k → opens_to K k part ≡ Some content
         → PairStands card theirs (Opened part content ∷ es) (after_open k part.made_by_sender part.number content) }
+    ensures of_logs { (O : Owner) (y : Id) (l : Log) → (k : PairState)
+        × PairStands O.card (O.public_key y) (events O.primitives O.card O.id y l) k }
     ensures next { (K : Primitives) (card : KeyPair) (theirs : Bytes) (es : List PairEvent) (k : PairState) (d : Draws)
         (payload : Bytes) → PairStands card theirs es k → next_part K k d payload ≡ part_to K theirs es d payload }
     ensures opened { (K : Primitives) (card : KeyPair) (theirs : Bytes) (es : List PairEvent) (k : PairState)

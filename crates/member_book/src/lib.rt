@@ -2,4 +2,5 @@
 //! what the log says. The definitions stand in `specs/`; the functions of `laws` prove what they are for.
 #![tactic(auto)]
 
+pub mod example;
 pub mod laws;

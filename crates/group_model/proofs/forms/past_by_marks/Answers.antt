@@ -1,5 +1,10 @@
 use Rattle.group_model.proofs.forms.past_by_marks.Goals as goal
+use Rattle.group_model.specs.Messages.{past}
+use Rattle.group_model.proofs.MarksMade.{marks_of, past-marks}
 use Rattle.group_model.proofs.Numbers.{past-marked, number-of, number-same, number-one}
+
+pub returns-clause-there_are : goal.returns-clause-there_are
+returns-clause-there_are c = λ h ids g. (marks_of h (past h ids), past-marks h g ids)
 
 pub returns-clause-past : goal.returns-clause-past
 returns-clause-past c = λ h ids marks g k. past-marked h ids marks g k
