@@ -1,5 +1,8 @@
-ghost use Rattle.std.specs.Prelude.{Bool, true, false, if◌then◌else◌, Option, Some, None, is_some, List, ℕ, [], length, refl};
-ghost use Rattle.std.proofs.Common.{ap, inr};
+ghost use Rattle.std.specs.Prelude.{◌≡◌, Bool, true, if◌then◌else◌, Option, Some, None, is_some, List, ℕ, length};
+ghost use Rattle.std.specs.Prelude.{replicate, refl, bytes_eq};
+ghost use Rattle.std.specs.Option.{option_map, option_map_or};
+ghost use Rattle.std.proofs.Common.{ap, sym, inr};
+ghost use Rattle.std.proofs.lemmas.Slice.Eq.{bytes_eq-Decides};
 ghost use Rattle.kem_trait.specs.Encapsulated.{Encapsulated};
 
 use crate::run::run_with;
@@ -10,7 +13,6 @@ use kem_trait::{Kem, KemRefusal, Words};
 use mail_trait::{MemEntropy, MemPost, MemSink, Post};
 use member_identity::Identity;
 use std::alloc::Global;
-use std::convert::Infallible;
 use std::test::Fail;
 
 /// The words that spaces part.
@@ -421,7 +423,12 @@ fn puts_the_card_alone(rt: HostRuntime) -> Result<(), Fail> {
     Ok(())
 }
 
-/// A set whose words never give a usable key. It stands for the rare words of the others that give none.
+/// The one pair of the set.
+#[derive(Drop)]
+struct ZeroPair;
+
+/// A set whose words never give a usable key, though there is a pair: its keys, its ciphertexts and its shared key are
+/// zeros. It stands for the rare words of the others that give none.
 struct Keyless;
 
 impl Kem for Keyless {
@@ -441,74 +448,78 @@ impl Kem for Keyless {
 
     const CIPHER_LEN: usize = 58;
 
-    type Pair = Infallible;
+    type Pair = ZeroPair;
 
     ghost made = { λ words. None };
 
     ghost pair_words = { λ words. 0 };
 
-    ghost is_secret = { λ secret. false };
+    ghost is_secret = { λ secret. bytes_eq secret (replicate 95 0) };
 
-    ghost public_in = { λ secret. secret };
+    ghost public_in = { λ secret. replicate 33 0 };
 
-    ghost is_public = { λ public. false };
+    ghost is_public = { λ public. bytes_eq public (replicate 33 0) };
 
-    ghost encapsulated = { λ public words. None };
+    ghost encapsulated = { λ public words. Some (record { cipher = replicate 58 0; key = replicate 32 0 }) };
 
     ghost cipher_words = { 0 };
 
-    ghost decapsulated = { λ secret cipher. None };
+    ghost decapsulated = { λ secret cipher. Some (replicate 32 0) };
 
-    ghost secret_key = { λ pair. [] };
+    ghost secret_key = { λ pair. replicate 95 0 };
 
     ghost has_set_lengths = { inr (refl, refl, refl, refl) };
 
-    ghost pairs_are_tested = { λ pair. elim pair [ ] };
+    ghost pairs_are_tested = { λ pair. refl };
 
-    ghost made_is_tested = { λ words secret is. ap is_some is };
+    ghost made_is_tested = { λ words secret is.
+        ap (λ (o : Option (List ℕ)). if is_some o then true else bytes_eq secret (replicate 95 0)) is };
 
-    ghost public_is_public = { λ secret is. is };
+    ghost public_is_public = { λ secret is. refl };
 
-    ghost decapsulates = { λ secret words e is sealed.
-        ap (λ (o : Option Encapsulated). if is_some o then Some e.key else None) sealed };
+    ghost decapsulates = { λ secret words e is sealed. ap (option_map (λ (e : Encapsulated). e.key)) sealed };
 
-    ghost secrets_have_length = { λ secret is. ap (λ (b : Bool). if b then 95 else length secret) is };
+    ghost secrets_have_length = { λ secret is. ap length ((bytes_eq-Decides secret (replicate 95 0)).0 is) };
 
-    ghost publics_have_length = { λ public is. ap (λ (b : Bool). if b then 33 else length public) is };
+    ghost publics_have_length = { λ public is. ap length ((bytes_eq-Decides public (replicate 33 0)).0 is) };
 
-    ghost encapsulates = { λ public words is. is };
+    ghost encapsulates = { λ public words is. refl };
 
     ghost ciphers_have_length = { λ public words e is. (
-      ap (λ (o : Option Encapsulated). if is_some o then 58 else length e.cipher) is,
-      ap (λ (o : Option Encapsulated). if is_some o then 32 else length e.key) is,
+      sym (ap (λ (o : Option Encapsulated). option_map_or (λ (e : Encapsulated). length e.cipher) o 58) is),
+      sym (ap (λ (o : Option Encapsulated). option_map_or (λ (e : Encapsulated). length e.key) o 32) is),
     ) };
 
-    fn make<W: Words>(_alloc: Global, _words: &mut W) -> Result<Infallible, KemRefusal> {
+    fn make<W: Words>(_alloc: Global, _words: &mut W) -> Result<ZeroPair, KemRefusal> {
         Err(KemRefusal::NoUsableKey)
     }
 
-    fn pair_from_secret(_alloc: Global, _secret: &[u8]) -> Result<Option<Infallible>, Memory> {
+    fn pair_from_secret(_alloc: Global, secret: &[u8]) -> Result<Option<ZeroPair>, Memory> {
+        if secret == [0; 95].as_slice() {
+            return Ok(Some(ZeroPair));
+        }
         Ok(None)
     }
 
-    fn secret(pair: &Infallible, _into: &mut [u8]) {
-        match *pair {}
+    fn secret(_pair: &ZeroPair, into: &mut [u8]) {
+        into.copy_from_slice(&[0; 95]);
     }
 
-    fn public(pair: &Infallible, _into: &mut [u8]) {
-        match *pair {}
+    fn public(_pair: &ZeroPair, into: &mut [u8]) {
+        into.copy_from_slice(&[0; 33]);
     }
 
-    fn public_ok(_public: &[u8]) -> bool {
-        false
+    fn public_ok(public: &[u8]) -> bool {
+        public == [0; 33].as_slice()
     }
 
-    fn encap<W: Words>(_public: &[u8], _words: &mut W, _cipher: &mut [u8]) -> [u8; 32] {
-        unreachable!()
+    fn encap<W: Words>(_public: &[u8], _words: &mut W, cipher: &mut [u8]) -> [u8; 32] {
+        cipher.copy_from_slice(&[0; 58]);
+        [0; 32]
     }
 
-    fn decap(pair: &Infallible, _cipher: &[u8]) -> Option<[u8; 32]> {
-        match *pair {}
+    fn decap(_pair: &ZeroPair, _cipher: &[u8]) -> Option<[u8; 32]> {
+        Some([0; 32])
     }
 }
 
