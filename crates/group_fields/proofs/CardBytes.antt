@@ -1,12 +1,12 @@
 -- The spelling of a card that has one.
-use Rattle.std.proofs.Common.{◌≡◌, ◌⊎◌, ℕ, ◌<◌, ◌≤◌, nat_le, bytes_eq, IsTrue, ◌==◌, ◌&&◌, ◌||◌, true, List, [], ◌∷◌, ◌++◌, length, take, drop, refl, ap, sym, subst, arith, ⊎_elim}
+use Rattle.std.proofs.Common.{◌≡◌, ◌⊎◌, ℕ, ◌<◌, ◌≤◌, nat_le, bytes_eq, IsTrue, ◌==◌, ◌&&◌, ◌||◌, true, List, [], ◌∷◌, ◌++◌, length, take, drop, refl, ap, ◌∙◌, sym, subst, arith, ⊎_elim}
 use Rattle.std.proofs.lemmas.Bool.{and_from, and_parts, le-leb, leb-true}
 use Rattle.std.proofs.lemmas.Bool.Decides.{nat_tests}
-use Rattle.std.proofs.lemmas.List.{length-drop, length-take, take-append-drop}
+use Rattle.std.proofs.lemmas.List.{drop_at, length-drop, length-take, take-append-drop, take_at}
 use Rattle.std.specs.Int.{w8, w32, from_be_bytes, to_be_bytes}
 use Rattle.sha2.specs.Sha256.{sha256}
 use Rattle.group_fields.specs.Cards.{HasSpelling, Spells, card, card_id, card_of_sets, key_size, least_lms_type, lms_public, lms_type, spelling}
-use Rattle.group_fields.specs.Fields.{Fills, any_bytes, is_between, number_from}
+use Rattle.group_fields.specs.Fields.{Fills, any_bytes, is_between, number_from, same_bytes}
 use Rattle.group_fields.specs.LayoutWrites.{Appends}
 use Rattle.group_fields.specs.Layouts as layouts
 use Rattle.group_fields.specs.Layouts.{bytes_of, digest, known, number}
@@ -108,6 +108,84 @@ lms_spelled value has long = ⊎_elim ten five (types value.set (lms_type value)
         key_spelled 2 5 key.rest key.size (record { size = refl; allowed = refl }) refl in
         subst (λ (k : List ℕ). layouts.Spells (lms_public value.set) k k) (sym key.is)
         (subst (λ (s : ℕ). layouts.Spells (lms_public s) (0 ∷ 0 ∷ 0 ∷ 5 ∷ 0 ∷ 0 ∷ 0 ∷ 3 ∷ key.rest) (0 ∷ 0 ∷ 0 ∷ 5 ∷ 0 ∷ 0 ∷ 0 ∷ 3 ∷ key.rest)) (sym at.0) at_two)
+
+-- ---- a card that bytes spell
+
+between_sets : (set : ℕ) → is_between 1 2 set ≡ true → IsTrue ((set == 1) || (set == 2))
+between_sets set is =
+    let both = and_parts (nat_le 1 set) (nat_le set 2) is in
+    let above = leb-true 1 set both.0 in
+    let below = leb-true set 2 both.1 in
+    grind (arith, nat_tests)
+
+between_types : (set type : ℕ) → IsTrue ((set == 1) || (set == 2)) → is_between (least_lms_type set) 6 type ≡ true
+    → IsTrue ((type == 6) || ((set == 2) && (type == 5)))
+between_types set type of is = ⊎_elim one two (sets set of)
+  where
+    one : set ≡ 1 → IsTrue ((type == 6) || ((set == 2) && (type == 5)))
+    one e =
+        let both = and_parts (nat_le 6 type) (nat_le type 6) (ap (λ (s : ℕ). is_between (least_lms_type s) 6 type) (sym e) ∙ is) in
+        let above = leb-true 6 type both.0 in
+        let below = leb-true type 6 both.1 in
+        grind (arith, nat_tests)
+
+    two : set ≡ 2 → IsTrue ((type == 6) || ((set == 2) && (type == 5)))
+    two e =
+        let both = and_parts (nat_le 5 type) (nat_le type 6) (ap (λ (s : ℕ). is_between (least_lms_type s) 6 type) (sym e) ∙ is) in
+        let above = leb-true 5 type both.0 in
+        let below = leb-true type 6 both.1 in
+        grind (arith, nat_tests)
+
+-- it is one that has a spelling
+pub spelled_has : (value : Card) (bytes : List ℕ) → Spells value bytes → HasSpelling value
+unfolding card_of_sets lms_public known number bytes_of digest
+spelled_has value bytes (
+  (tag, (version, (set, (key, (inviter, kem))))),
+  (
+    f1,
+    b1,
+    e1,
+    is_tag,
+    (
+      f2,
+      b2,
+      e2,
+      is_version,
+      (
+        f3,
+        b3,
+        e3,
+        (set_fills, set_is),
+        (
+          f4,
+          b4,
+          e4,
+          (types, (k1, r1, e5, (type_fills, type_is), (k2, r2, e6, (one_fills, one_is), others)), key_is),
+          (f5, b5, e7, is_inviter, (kem_fills, kem_is)),
+        ),
+      ),
+    ),
+  ),
+  fits,
+  renamed,
+) =
+    let in_sets : is_between 1 2 set ≡ true = ap (is_between 1 2) set_is
+    ∙ (and_parts (is_between 1 2 (from_be_bytes w8 f3)) (bytes_eq (to_be_bytes w8 (from_be_bytes w8 f3)) f3) set_fills.allowed).0 in
+    let of_set : IsTrue ((set == 1) || (set == 2)) = between_sets set in_sets in
+    let in_types : is_between (least_lms_type set) 6 (from_be_bytes w32 k1) ≡ true =
+    (and_parts (is_between (least_lms_type set) 6 (from_be_bytes w32 k1)) (bytes_eq (to_be_bytes w32 (from_be_bytes w32 k1)) k1)
+    type_fills.allowed).0 in
+    let front : take 4 key ≡ k1 = ap (take 4) (key_is ∙ e5) ∙ take_at k1 r1 4 type_fills.size in
+    let behind : take 4 (drop 4 key) ≡ 0 ∷ 0 ∷ 0 ∷ 3 ∷ [] = ap (λ (l : List ℕ). take 4 (drop 4 l)) (key_is ∙ e5)
+    ∙ ap (take 4) (drop_at k1 r1 4 type_fills.size ∙ e6) ∙ take_at k2 r2 4 one_fills.size
+    ∙ same_bytes k2 (0 ∷ 0 ∷ 0 ∷ 3 ∷ []) one_fills.allowed in
+    subst HasSpelling (sym renamed) (record {
+      set = of_set;
+      lms_type = between_types set (from_be_bytes w32 (take 4 key)) of_set
+          (ap (λ (l : List ℕ). is_between (least_lms_type set) 6 (from_be_bytes w32 l)) front ∙ in_types);
+      one_time_type = ap (from_be_bytes w32) behind;
+      kem_public = ap length kem_is ∙ kem_fills.size;
+    })
 
 -- a card of some sets is a card
 pub of_some_sets : (from to : ℕ) (bytes : List ℕ) (value : Card) → 1 ≤ from → to ≤ 2 → layouts.Spells (card_of_sets from to) bytes value

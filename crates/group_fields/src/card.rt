@@ -75,9 +75,10 @@ pub fn write_card(alloc: Global, card: &Card) -> Result<Bytes, Memory>
     Ok(Bytes::from(bytes))
 }
 
-/// The law of spellings: bytes spell one card at most, and a card has one spelling.
-#[tactic(auto, using(crate::proofs::CardBytes::one_card, crate::proofs::CardBytes::one_card_spelling))]
+/// The law of spellings: bytes spell one card at most, a card has one spelling, and what bytes spell has one.
+#[tactic(auto, using(crate::proofs::CardBytes::one_card, crate::proofs::CardBytes::one_card_spelling, crate::proofs::CardBytes::spelled_has))]
 pub fn cards_are_spelled_once()
     ensures one_card { (bytes : List ℕ) (a b : Card) → Spells a bytes → Spells b bytes → a ≡ b }
     ensures one_spelling { (card : Card) (a b : List ℕ) → Spells card a → Spells card b → a ≡ b }
+    ensures has_spelling { (card : Card) (bytes : List ℕ) → Spells card bytes → HasSpelling card }
 {}
