@@ -24,13 +24,18 @@ fn rows<C: FileCalls>(calls: &mut C, alloc: Global) -> Result<String, CallError>
     Ok(text)
 }
 
-/// Makes a file, writes two parts with a gap between them, and answers how many bytes it has.
+/// Locks a file, writes two parts with a gap between them, and syncs it.
+fn write_parts<C: FileCalls>(calls: &mut C, file: &mut C::File) -> Result<(), CallError> {
+    calls.lock(file)?;
+    calls.write_at(file, 0, b"abcd")?;
+    calls.write_at(file, 6, b"z")?;
+    calls.sync(file)
+}
+
+/// Makes a file of two parts, and answers how many bytes it has.
 fn fill<C: FileCalls>(calls: &mut C) -> Result<u64, CallError> {
     let mut file = calls.make(FIRST, true)?;
-    calls.lock(&mut file)?;
-    calls.write_at(&mut file, 0, b"abcd")?;
-    calls.write_at(&mut file, 6, b"z")?;
-    calls.sync(&mut file)?;
+    write_parts(calls, &mut file)?;
     calls.sync_name(FIRST)?;
     calls.len(&mut file)
 }
@@ -48,21 +53,38 @@ fn reads<C: FileCalls>(calls: &mut C, alloc: Global) -> Result<String, CallError
     Ok(text)
 }
 
-/// What each call answers in turn, as a text.
-fn told_by<C: FileCalls>(calls: &mut C, alloc: Global) -> Result<String, CallError> {
+/// What the calls answer before the file is moved.
+fn made_by<C: FileCalls>(calls: &mut C, alloc: Global) -> Result<String, CallError> {
     let is_missing = calls.open(FIRST)?.is_none();
     let length = fill(calls)?;
     let is_taken = matches!(calls.make(FIRST, false), Err(CallError::Taken));
     let is_refused = calls.open(FOLDER).is_err();
+    Ok(format!(in alloc; "{is_missing} {length} {is_taken} {is_refused} ")?)
+}
+
+/// What is there after the file was moved.
+fn moved_by<C: FileCalls>(calls: &mut C, alloc: Global) -> Result<String, CallError> {
     calls.rename(FIRST, SECOND)?;
-    let moved = rows(calls, alloc)?;
-    let bytes = reads(calls, alloc)?;
+    let mut moved = rows(calls, alloc)?;
+    moved.push(' ')?;
+    moved.push_str(reads(calls, alloc)?.as_str())?;
+    Ok(moved)
+}
+
+/// What is there after the file was removed.
+fn removed_by<C: FileCalls>(calls: &mut C, alloc: Global) -> Result<String, CallError> {
     calls.remove(SECOND)?;
     let removed = rows(calls, alloc)?;
     let is_gone = calls.remove(SECOND).is_err() && calls.rename(SECOND, FIRST).is_err();
-    Ok(format!(in alloc;
-        "{is_missing} {length} {is_taken} {is_refused} {moved} {bytes} {removed} {is_gone}"
-    )?)
+    Ok(format!(in alloc; " {removed} {is_gone}")?)
+}
+
+/// What each call answers in turn, as a text.
+fn told_by<C: FileCalls>(calls: &mut C, alloc: Global) -> Result<String, CallError> {
+    let mut told = made_by(calls, alloc)?;
+    told.push_str(moved_by(calls, alloc)?.as_str())?;
+    told.push_str(removed_by(calls, alloc)?.as_str())?;
+    Ok(told)
 }
 
 const TOLD: &str = "true 7 true true second true 7; \
@@ -78,18 +100,19 @@ fn folder(alloc: Global) -> StoredFile {
     }
 }
 
-#[test]
-fn both_forms_tell_the_same(rt: HostRuntime) -> Result<(), Fail> {
-    let mut memory = MemFiles::new(rt.alloc(), &[], FULL, usize::MAX)?;
-    memory.place(FOLDER, folder(rt.alloc()))?;
-    assert_eq!(rt; told_by(&mut memory, rt.alloc())?.as_str(), TOLD);
+fn told_in_memory(alloc: Global) -> Result<String, Fail> {
+    let mut memory = MemFiles::new(alloc, &[], FULL, usize::MAX)?;
+    memory.place(FOLDER, folder(alloc))?;
+    Ok(told_by(&mut memory, alloc)?)
+}
 
-    let _ = fs::remove_dir_all(&rt, FOLDER);
-    fs::create_dir(&rt, FOLDER)?;
+fn told_on_the_machine(rt: &HostRuntime) -> Result<String, Fail> {
+    let _ = fs::remove_dir_all(rt, FOLDER);
+    fs::create_dir(rt, FOLDER)?;
     let mut machine = RealFiles::new(rt.clone()?);
-    assert_eq!(rt; told_by(&mut machine, rt.alloc())?.as_str(), TOLD);
-    fs::remove_dir_all(&rt, FOLDER)?;
-    Ok(())
+    let told = told_by(&mut machine, rt.alloc())?;
+    fs::remove_dir_all(rt, FOLDER)?;
+    Ok(told)
 }
 
 /// Whether an open file more can have the lock.
@@ -132,22 +155,15 @@ fn is_as_the_mask_lets(rt: HostRuntime) -> Result<bool, Fail> {
     Ok(same)
 }
 
-#[test]
-fn the_machine_keeps_files_private_and_locked(rt: HostRuntime) -> Result<(), Fail> {
+/// Whether files are private and locked as they are to be, and the mode of a private one.
+fn kept_on_the_machine(rt: &HostRuntime) -> Result<String, Fail> {
     let path = "system_calls_private";
-    let _ = fs::remove_file(&rt, path);
-    assert_eq!(rt; locks(rt.clone()?, path)?, (false, true));
-    assert_eq!(rt; mode_of(&rt, path)?, 0o100600);
-    fs::remove_file(&rt, path)?;
-    assert!(rt; is_as_the_mask_lets(rt.clone()?)?);
-    Ok(())
-}
-
-#[test]
-fn a_name_lies_in_its_folder(rt: HostRuntime) {
-    for (path, folder) in [("a", "."), ("/a", "/"), ("b/a", "b"), ("/c/b/a", "/c/b")] {
-        assert_eq!(rt; folder_of(path), folder, "{path}");
-    }
+    let _ = fs::remove_file(rt, path);
+    let (during, after) = locks(rt.clone()?, path)?;
+    let mode = mode_of(rt, path)?;
+    fs::remove_file(rt, path)?;
+    let is_as_usual = is_as_the_mask_lets(rt.clone()?)?;
+    Ok(format!(in rt.alloc(); "{during} {after} {mode:o} {is_as_usual}")?)
 }
 
 /// How a write and a read of four bytes go in memory, where one moves at most two and the call of a number fails.
@@ -159,12 +175,34 @@ fn short_calls(alloc: Global, call: u32) -> Result<(usize, usize), CallError> {
     Ok((written, read))
 }
 
-#[test]
-fn planned_calls_fail_and_others_are_short(rt: HostRuntime) -> Result<(), Fail> {
-    for call in 1..4 {
-        let answer = short_calls(rt.alloc(), call);
-        assert_eq!(rt; answer, Err(FULL), "call {call}");
+/// How they go where the first call fails, the second, the third, and none of them.
+fn planned(alloc: Global) -> Result<String, Fail> {
+    let mut text = String::new(alloc);
+    for call in 1..5 {
+        let answer = short_calls(alloc, call);
+        text.push_str(format!(in alloc; "{answer:?};")?.as_str())?;
     }
-    assert_eq!(rt; short_calls(rt.alloc(), 4), Ok((2, 1)));
+    Ok(text)
+}
+
+const PLANNED: &str =
+    "Err(Failed(StorageFull));Err(Failed(StorageFull));Err(Failed(StorageFull));Ok((2, 1));";
+
+const FOLDERS: [(&str, &str); 4] = [("a", "."), ("/a", "/"), ("b/a", "b"), ("/c/b/a", "/c/b")];
+
+#[test]
+fn calls_do_what_they_say(rt: HostRuntime) -> Result<(), Fail> {
+    let rows = [
+        (told_in_memory(rt.alloc())?, TOLD),
+        (told_on_the_machine(&rt)?, TOLD),
+        (kept_on_the_machine(&rt)?, "false true 100600 true"),
+        (planned(rt.alloc())?, PLANNED),
+    ];
+    for (told, want) in rows.iter() {
+        assert_eq!(rt; told.as_str(), *want);
+    }
+    for (path, folder) in FOLDERS {
+        assert_eq!(rt; folder_of(path), folder, "{path}");
+    }
     Ok(())
 }
