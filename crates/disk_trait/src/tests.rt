@@ -3,7 +3,6 @@ use group_fields::{Memory, Text};
 use std::alloc::Global;
 use std::io::ErrorKind;
 use std::os::unix::fs::{MetadataExt, PermissionsExt};
-use std::process::Abort;
 use std::test::Fail;
 use std::{fs, io};
 use system_calls::{CallError, FileCalls, MemFiles, RealFiles, StoredFile};
@@ -23,34 +22,34 @@ fn read_from<D: Disk>(disk: &mut D, at: u64) -> Result<(usize, [u8; 9]), DiskErr
     Ok((count, into))
 }
 
-/// What a disk reads from its first byte on.
-fn check_content<D: Disk>(rt: &impl Abort, disk: &mut D, want: &[u8]) -> Result<(), DiskError> {
-    assert_eq!(rt; disk.len()?, want.len() as u64);
-    let (count, into) = read_from(disk, 0)?;
-    assert_eq!(rt; into.get(..count), Some(want));
-    Ok(())
+/// How many bytes a disk has, and what it reads from a place on.
+fn read_text<D: Disk>(alloc: Global, disk: &mut D, at: u64) -> Result<String, Fail> {
+    let length = disk.len()?;
+    let (count, into) = read_from(disk, at)?;
+    let read = str::from_utf8(&into)?;
+    Ok(format!(in alloc; "{length} {count} {read};")?)
 }
 
-#[test]
-fn reads_what_was_written(rt: HostRuntime) -> Result<(), Fail> {
-    let mut disk = MemDisk::honest(rt.alloc());
-    check_content(&rt, &mut disk, b"")?;
-    fill(&mut disk)?;
-    check_content(&rt, &mut disk, b"abXpqr")?;
-    for (at, count, want) in [
-        (4, 2, "qr......."),
-        (2, 4, "Xpqr....."),
-        (6, 0, "........."),
-        (u64::MAX, 0, "........."),
-    ] {
-        let (read, into) = read_from(&mut disk, at)?;
-        assert_eq!(rt; read, count, "at {at}");
-        assert_eq!(rt; into.as_slice(), want.as_bytes(), "at {at}");
+/// What a disk reads before and after it is filled, from several places on. Then it writes once behind its end.
+fn told_by<D: Disk>(alloc: Global, disk: &mut D) -> Result<String, Fail> {
+    let mut text = read_text(alloc, disk, 0)?;
+    fill(disk)?;
+    for at in [0, 4, 2, 6, u64::MAX] {
+        text.push_str(read_text(alloc, disk, at)?.as_str())?;
     }
     disk.write_at(8, b"z")?;
-    assert_eq!(rt; disk.bytes(), b"abXpqr\0\0z".as_slice());
-    Ok(())
+    Ok(text)
 }
+
+fn told_in_memory(alloc: Global) -> Result<String, Fail> {
+    let mut disk = MemDisk::honest(alloc);
+    let mut text = told_by(alloc, &mut disk)?;
+    text.push_str(str::from_utf8(disk.bytes())?)?;
+    Ok(text)
+}
+
+const TOLD: &str = "0 0 .........;6 6 abXpqr...;6 2 qr.......;6 4 Xpqr.....;\
+    6 0 .........;6 0 .........;abXpqr\0\0z";
 
 /// A disk that was filled, after a crash.
 fn crashed(alloc: Global, image: u8) -> Result<MemDisk, DiskError> {
@@ -69,29 +68,24 @@ fn synced_and_crashed(alloc: Global) -> Result<MemDisk, DiskError> {
     Ok(disk)
 }
 
-#[test]
-fn a_crash_keeps_none_or_all_or_all_inverted(rt: HostRuntime) -> Result<(), Fail> {
-    // the bytes X, p, q and r inverted
-    let inverted = [b'a', b'b', 0xa7, 0x8f, 0x8e, 0x8d];
-    let cases = [
-        (0, b"abcd".as_slice()),
-        (1, b"abXpqr".as_slice()),
-        (2, inverted.as_slice()),
-    ];
-    for (image, want) in cases {
-        let mut disk = crashed(rt.alloc(), image)?;
-        assert_eq!(rt; disk.bytes(), want, "image {image}");
+/// The bytes after a crash with each image in turn, and after another crash; and those of a disk that was synced.
+fn crashes(alloc: Global) -> Result<String, Fail> {
+    let mut text = String::new(alloc);
+    for image in 0..3 {
+        let mut disk = crashed(alloc, image)?;
+        text.push_str(format!(in alloc; "{:?}", disk.bytes())?.as_str())?;
         disk.crash(0);
-        assert_eq!(rt;
-            disk.bytes(),
-            want,
-            "nothing is pending after image {image}"
-        );
+        text.push_str(format!(in alloc; "{:?};", disk.bytes())?.as_str())?;
     }
-    let disk = synced_and_crashed(rt.alloc())?;
-    assert_eq!(rt; disk.bytes(), b"abXpqr".as_slice());
-    Ok(())
+    let disk = synced_and_crashed(alloc)?;
+    text.push_str(str::from_utf8(disk.bytes())?)?;
+    Ok(text)
 }
+
+// none of the bytes X, p, q and r, all of them, and all inverted; nothing is pending after a crash
+const CRASHES: &str = "[97, 98, 99, 100][97, 98, 99, 100];\
+    [97, 98, 88, 112, 113, 114][97, 98, 88, 112, 113, 114];\
+    [97, 98, 167, 143, 142, 141][97, 98, 167, 143, 142, 141];abXpqr";
 
 /// Six calls in turn, of which those that fail are counted by the bits of their numbers.
 fn failures<D: Disk>(disk: &mut D) -> u32 {
@@ -109,25 +103,30 @@ fn failures<D: Disk>(disk: &mut D) -> u32 {
         .fold(0, |bits: u32, &failed| bits % 64 * 2 + u32::from(failed))
 }
 
-#[test]
-fn planned_calls_of_a_disk_fail(rt: HostRuntime) -> Result<(), Fail> {
-    // calls: write, sync, write, write; what is read then, and what a crash that keeps no pending write leaves
-    let cases = [
-        (1, 1, "\0\0Xpqr", ""),
-        (2, 2, "abXpqr", ""),
-        (3, 4, "abcpqr", "abcd"),
-        (4, 8, "abXY", "abcd"),
-        (5, 16, "abXpqr", "abcd"),
-    ];
-    for (number, bits, want, settled) in cases {
-        let mut disk = MemDisk::new(rt.alloc(), &[number])?;
-        assert_eq!(rt; failures(&mut disk), bits, "plan {number}");
-        assert_eq!(rt; disk.bytes(), want.as_bytes(), "plan {number}");
-        disk.crash(0);
-        assert_eq!(rt; disk.bytes(), settled.as_bytes(), "plan {number}");
-    }
-    Ok(())
+/// Which calls of a disk fail where the call of a number is to fail, what is read then, and what a crash that keeps no
+/// pending write leaves.
+fn planned(alloc: Global, number: u32) -> Result<String, Fail> {
+    let mut disk = MemDisk::new(alloc, &[number])?;
+    let bits = failures(&mut disk);
+    let mut text = format!(in alloc; "{bits} ")?;
+    text.push_str(str::from_utf8(disk.bytes())?)?;
+    disk.crash(0);
+    text.push('/')?;
+    text.push_str(str::from_utf8(disk.bytes())?)?;
+    text.push(';')?;
+    Ok(text)
 }
+
+fn all_planned(alloc: Global) -> Result<String, Fail> {
+    let mut text = String::new(alloc);
+    for number in 1..6 {
+        text.push_str(planned(alloc, number)?.as_str())?;
+    }
+    Ok(text)
+}
+
+// calls: write, sync, write, write
+const PLANNED: &str = "1 \0\0Xpqr/;2 abXpqr/;4 abcpqr/abcd;8 abXY/abcd;16 abXpqr/abcd;";
 
 const PATH: &str = "disk_trait_files/journal";
 
@@ -170,44 +169,35 @@ fn stopped(alloc: Global, call: u32, error: CallError) -> Result<(u32, Option<Er
     Ok((done, disk.reason()))
 }
 
-#[test]
-fn no_failure_of_a_call_is_swallowed(rt: HostRuntime) -> Result<(), Fail> {
-    // len: open; write: make, lock, sync the name, write; sync; write; len; read: twice, to the end
-    let ended_before = [0, 1, 1, 1, 1, 2, 3, 4, 5, 5];
-    let full = CallError::Failed(ErrorKind::StorageFull);
-    for (before, ended) in ended_before.iter().enumerate() {
-        let call = before as u32 + 1;
-        let answer = stopped(rt.alloc(), call, full)?;
-        assert_eq!(rt;
-            answer,
-            (*ended, Some(ErrorKind::StorageFull)),
-            "call {call}"
-        );
+/// What the disk says where each call in turn fails, and the last where none does; where the write wants memory, and
+/// where the file that it makes is there.
+fn stops(alloc: Global) -> Result<String, Fail> {
+    let mut text = String::new(alloc);
+    for call in 1..12 {
+        let (done, reason) = stopped(alloc, call, CallError::Failed(ErrorKind::StorageFull))?;
+        text.push_str(format!(in alloc; "{done} {reason:?};")?.as_str())?;
     }
-    assert_eq!(rt; stopped(rt.alloc(), 11, full)?, (6, None));
-    let memory = stopped(rt.alloc(), 5, CallError::Memory)?;
-    assert_eq!(rt; memory, (1, Some(ErrorKind::OutOfMemory)));
-    let taken = stopped(rt.alloc(), 2, CallError::Taken)?;
-    assert_eq!(rt; taken, (1, Some(ErrorKind::AlreadyExists)));
-    Ok(())
+    for (call, error) in [(5, CallError::Memory), (2, CallError::Taken)] {
+        let (done, reason) = stopped(alloc, call, error)?;
+        text.push_str(format!(in alloc; "{done} {reason:?};")?.as_str())?;
+    }
+    Ok(text)
 }
 
+// len: open; write: make, lock, sync the name, write; sync; write; len; read: twice, to the end
+const STOPS: &str =
+    "0 Some(StorageFull);1 Some(StorageFull);1 Some(StorageFull);1 Some(StorageFull);\
+    1 Some(StorageFull);2 Some(StorageFull);3 Some(StorageFull);4 Some(StorageFull);5 Some(StorageFull);\
+    5 Some(StorageFull);6 None;1 Some(OutOfMemory);1 Some(AlreadyExists);";
+
 /// The file after the six calls, where a read or a write moves one byte, and some of them are interrupted.
-fn stepped(alloc: Global) -> Result<(u32, Option<StoredFile>), Memory> {
+fn interrupted(alloc: Global) -> Result<String, Fail> {
     let calls = MemFiles::new(alloc, &[5, 7, 8, 11, 13], CallError::Interrupted, 1)?;
     let mut disk = disk_over(calls, alloc, PATH)?;
     let done = six_calls(&mut disk);
-    Ok((done, disk.calls().file(PATH)?))
-}
-
-#[test]
-fn calls_go_on_where_they_were_short_or_interrupted(rt: HostRuntime) -> Result<(), Fail> {
-    let (done, file) = stepped(rt.alloc())?;
-    assert_eq!(rt; done, 6);
-    let file = file.ok_or("no file")?;
-    assert_eq!(rt; file.bytes.as_slice(), b"abXYZ".as_slice());
-    assert_eq!(rt; (file.is_synced, file.is_named), (false, true));
-    Ok(())
+    let file = disk.calls().file(PATH)?.ok_or("no file")?;
+    let bytes = str::from_utf8(file.bytes.as_slice())?;
+    Ok(format!(in alloc; "{done} {bytes} {} {}", file.is_synced, file.is_named)?)
 }
 
 const FOLDER: &str = "disk_trait_files";
@@ -246,33 +236,61 @@ fn failure(rt: &HostRuntime, path: &str) -> Result<Option<ErrorKind>, Fail> {
 }
 
 /// What a disk over the path reads from a place on.
-fn read_at(rt: &HostRuntime, path: &str, at: u64) -> Result<(usize, [u8; 9]), Fail> {
+fn read_at(rt: &HostRuntime, path: &str, at: u64) -> Result<String, Fail> {
     let mut disk = disk_over(RealFiles::new(rt.clone()?), rt.alloc(), path)?;
-    Ok(read_from(&mut disk, at)?)
+    read_text(rt.alloc(), &mut disk, at)
 }
 
 fn mode_of(rt: &HostRuntime, path: &str) -> io::Result<u32> {
     Ok(fs::metadata(rt, path)?.mode())
 }
 
+/// A disk that is late, and what the other one wrote.
+fn late_on_a_file(rt: &HostRuntime) -> Result<String, Fail> {
+    let is_made = makes_a_file(rt, PATH)?;
+    let reason = late(rt, PATH)?;
+    let read = read_at(rt, PATH, 0)?;
+    fs::remove_file(rt, PATH)?;
+    Ok(format!(in rt.alloc(); "{is_made} {reason:?} {read}")?)
+}
+
+/// A second disk, the mode of the file, and what is read of it, also where it can't be written.
+fn kept_in_a_file(rt: &HostRuntime) -> Result<String, Fail> {
+    let reason = filled(rt, PATH)?;
+    let mode = mode_of(rt, PATH)?;
+    let end = read_at(rt, PATH, 4)?;
+    fs::set_permissions(rt, PATH, fs::Permissions::from_mode(0o400))?;
+    let whole = read_at(rt, PATH, 0)?;
+    Ok(format!(in rt.alloc(); "{reason:?} {mode:o} {end}{whole}")?)
+}
+
+fn on_the_machine(rt: &HostRuntime) -> Result<String, Fail> {
+    let _ = fs::remove_dir_all(rt, FOLDER);
+    fs::create_dir(rt, FOLDER)?;
+    let late = late_on_a_file(rt)?;
+    let kept = kept_in_a_file(rt)?;
+    let folder = failure(rt, FOLDER)?;
+    let inside = failure(rt, "disk_trait_files/journal/a")?;
+    fs::remove_dir_all(rt, FOLDER)?;
+    Ok(format!(in rt.alloc(); "{late}{kept}{folder:?} {inside:?}")?)
+}
+
+const ON_THE_MACHINE: &str =
+    "false Some(AlreadyExists) 6 6 abXpqr...;Some(WouldBlock) 100600 6 2 qr.......;\
+    6 6 abXpqr...;Some(InvalidInput) Some(NotADirectory)";
+
 #[test]
-fn file_disk_reads_and_writes(rt: HostRuntime) -> Result<(), Fail> {
-    let _ = fs::remove_dir_all(&rt, FOLDER);
-    fs::create_dir(&rt, FOLDER)?;
-    assert!(rt; !makes_a_file(&rt, PATH)?);
-    assert_eq!(rt; late(&rt, PATH)?, Some(ErrorKind::AlreadyExists));
-    assert_eq!(rt; read_at(&rt, PATH, 0)?, (6, *b"abXpqr..."));
-    fs::remove_file(&rt, PATH)?;
-    assert_eq!(rt; filled(&rt, PATH)?, Some(ErrorKind::WouldBlock));
-    assert_eq!(rt; mode_of(&rt, PATH)?, 0o100600);
-    assert_eq!(rt; read_at(&rt, PATH, 4)?, (2, *b"qr......."));
-    fs::set_permissions(&rt, PATH, fs::Permissions::from_mode(0o400))?;
-    assert_eq!(rt; read_at(&rt, PATH, 0)?, (6, *b"abXpqr..."));
-    assert_eq!(rt; failure(&rt, FOLDER)?, Some(ErrorKind::InvalidInput));
-    assert_eq!(rt;
-        failure(&rt, "disk_trait_files/journal/a")?,
-        Some(ErrorKind::NotADirectory)
-    );
-    fs::remove_dir_all(&rt, FOLDER)?;
+fn disks_keep_what_was_written(rt: HostRuntime) -> Result<(), Fail> {
+    let rows = [
+        (told_in_memory(rt.alloc())?, TOLD),
+        (crashes(rt.alloc())?, CRASHES),
+        (all_planned(rt.alloc())?, PLANNED),
+        (stops(rt.alloc())?, STOPS),
+        (interrupted(rt.alloc())?, "6 abXYZ false true"),
+        (on_the_machine(&rt)?, ON_THE_MACHINE),
+    ];
+    for (told, want) in rows.iter() {
+        assert_eq!(rt; told.as_str(), *want);
+    }
     Ok(())
 }
