@@ -1,11 +1,12 @@
 -- The stories of `init` and `card`, by the ways in which they go.
-use Rattle.std.proofs.Common.{◌≡◌, inl, inr, ℕ, ◌==◌, Bool, true, false, not, is_some, List, [], ◌∷◌, ◌++◌, length, Option, Some, None, Result, Ok, refl, sym, ◌∙◌, ap, subst}
+use Rattle.std.proofs.Common.{◌≡◌, inr, ℕ, Bool, true, false, not, is_some, List, [], ◌∷◌, ◌++◌, length, Option, Some, None, refl, sym, ◌∙◌, ap}
 use Rattle.std.proofs.lemmas.List.{length-map}
 use Rattle.std.specs.Option.{option_map, option_to_list}
 use Rattle.disk_trait.specs.declared.disk.Disk.{Ghosts as DiskGhosts}
 use Rattle.group_fields.specs.declared.ids.MemberId.{MemberId}
 use Rattle.kem_trait.specs.declared.kem.Kem.{Ghosts as KemGhosts}
 use Rattle.group_fields.specs.Cards.{spelling}
+use Rattle.group_fields.specs.Layouts.{Spells}
 use Rattle.member_identity.specs.Identity.{card_bytes, card_of, card_with, secret_from}
 use Rattle.member_journal.specs.Format.{Entry}
 use Rattle.member_journal.specs.Journal.{entries, next_place, places, places-entries}
@@ -13,11 +14,11 @@ use Rattle.member_journal.specs.declared.journal.Journal.{Journal}
 use Rattle.mailbox_cli.specs.Call.{Answers, LeavesAsked, LeavesEnd}
 use Rattle.mailbox_cli.specs.Lines.{made_line}
 use Rattle.mailbox_cli.specs.Opening.{IsNext}
-use Rattle.mailbox_cli.specs.Steps.{Step, has_key, record_of, member_of, steps_behind, steps_in, tree_height}
-use Rattle.mailbox_cli.specs.Story.{Event, awaits, plans, refuses, refuses_or, first, says, init_step, seed_story, init_story, card_story, card_in, puts_card, draws_then}
+use Rattle.mailbox_cli.specs.Steps.{Step, has_key, init_record, steps_behind, steps_in, tree_height}
+use Rattle.mailbox_cli.specs.Story.{Event, plans, refuses, refuses_or, first, says, init_step, seed_story, init_story, card_story, puts_card, draws_then}
 use Rattle.mailbox_cli.specs.declared.ended.Ended.{Ended}
 use Rattle.mailbox_cli.specs.declared.ended.Refusal.TheVariants.{NoUsableKey, AlreadyMade, NotMade}
-use Rattle.mailbox_cli.proofs.Records.{member_of-record_of, none_of_length}
+use Rattle.mailbox_cli.proofs.Records.{member_of-spelled, none_of_length}
 
 module _ {K L : Type 0} (kem : KemGhosts K L) where
   module _ (inviter : Option MemberId) (random : List ℕ) where
@@ -46,12 +47,11 @@ module _ {K L : Type 0} (kem : KemGhosts K L) where
 
   -- the record of an `init` may be the first
   pub init_next : {D : Type 0} {disk : DiskGhosts D} (journal : Journal D disk) (bytes : List ℕ) (step : Step) → length (places journal) ≡ 0
-      → bytes ≡ record_of kem step → length step.inviter ≡ 32 → length step.random ≡ 32 → has_key kem step.random ≡ true
-      → IsNext kem journal bytes [] step
-  init_next journal bytes step none is inviter random usable = record {
+      → Spells (init_record kem.SET) bytes step → has_key kem step.random ≡ true → IsNext kem journal bytes [] step
+  init_next journal bytes step none spelled usable = record {
     before = ap (steps_in kem) (no_entries journal none);
-    after = (λ i. steps_in kem (no_entries journal none i ++ record { place = next_place journal; bytes = is i } ∷ []))
-        ∙ ap (λ (m : Option Step). steps_behind m (next_place journal) []) (member_of-record_of kem step inviter random usable);
+    after = (λ i. steps_in kem (no_entries journal none i ++ record { place = next_place journal; bytes = bytes } ∷ []))
+        ∙ ap (λ (m : Option Step). steps_behind m (next_place journal) []) (member_of-spelled kem bytes step spelled usable);
   }
 
   -- the card of a member with a usable key

@@ -1,50 +1,69 @@
 -- The record of an `init`, and the steps that records stand for.
-use Rattle.std.proofs.Common.{◌≡◌, ℕ, ◌+◌, ◌≤◌, ◌==◌, true, false, is_some, List, [], ◌∷◌, ◌++◌, length, take, drop, map, slice_get, Option, Some, None, Ok, Err, refl, ◌∙◌, ap, arith, length-append}
-use Rattle.std.proofs.lemmas.Bool.Decides.{nat_tests}
-use Rattle.std.proofs.lemmas.List.{take_at, drop_at, drop_all, append-nil}
+use Rattle.std.proofs.Common.{◌≡◌, ℕ, ◌≤◌, Bool, true, false, is_some, if◌then◌else◌, List, [], ◌∷◌, length, map, slice_get, Option, Some, None, Result, Ok, Err, refl, sym, ◌∙◌, ap, arith, length-append}
 use Rattle.std.specs.Option.{option_to_list}
+use Rattle.group_fields.specs.LayoutReads.{read_whole}
+use Rattle.group_fields.specs.LayoutWrites.{Appends}
+use Rattle.group_fields.specs.Layouts.{Spells, bytes_of, digest, known}
+use Rattle.group_fields.specs.declared.fault.FieldFault.{FieldFault}
+use Rattle.group_fields.specs.declared.ids.Digest.{Digest}
+use Rattle.group_fields.proofs.LayoutLaws.{whole_read}
+use Rattle.group_fields.proofs.WriteSteps.{behind_appended, shaped_appended}
 use Rattle.kem_trait.specs.declared.kem.Kem.{Ghosts as KemGhosts}
 use Rattle.member_journal.specs.Format.{Entry, journal_of}
-use Rattle.mailbox_cli.specs.Steps.{Step, record_of, is_init, has_key, step_of, member_of, steps_behind, steps_in, steps_among, steps_of}
+use Rattle.mailbox_cli.specs.Steps.{Step, has_key, init_record, member_of, steps_among, steps_behind, steps_in, steps_of, tree_height, with_key}
 
 pub none_of_length : {A : Type 0} (xs : List A) → length xs ≡ 0 → xs ≡ []
 none_of_length [] is = refl
 none_of_length (x ∷ xs) is = absurd (omega (arith, is))
 
--- the inviter and the random bytes put behind the first three bytes
-pub record_put : (set : ℕ) (inviter random rest : List ℕ) → length inviter ≡ 32 → length random ≡ 32 → length rest ≡ 32
-    → take 35 (1 ∷ set ∷ 10 ∷ (inviter ++ rest)) ++ random ++ drop (35 + length random) (1 ∷ set ∷ 10 ∷ (inviter ++ rest)) ≡ 1 ∷ set ∷ 10 ∷ (inviter ++ random)
-record_put set inviter random rest some more left =
-    ap (λ (l : List ℕ). 1 ∷ set ∷ 10 ∷ (l ++ random ++ drop (35 + length random) (1 ∷ set ∷ 10 ∷ (inviter ++ rest)))) (take_at inviter rest 32 some)
-    ∙ ap (λ (l : List ℕ). 1 ∷ set ∷ 10 ∷ (inviter ++ random ++ l)) (drop_all (35 + length random) (1 ∷ set ∷ 10 ∷ (inviter ++ rest)) (omega (arith, more, some, left, length-append inviter rest)))
-    ∙ ap (λ (l : List ℕ). 1 ∷ set ∷ 10 ∷ l) (append-nil (inviter ++ random))
+-- the fields of the record of an `init`, one behind the other
+pub init_appended : (set : ℕ) (step : Step) (start with_kind with_set with_height with_inviter whole : List ℕ)
+    → Appends (known (1 ∷ [])) tt start with_kind → Appends (known (set ∷ [])) tt with_kind with_set
+    → Appends (known (tree_height ∷ [])) tt with_set with_height → Appends digest (record { 0 = step.inviter }) with_height with_inviter
+    → Appends (bytes_of 32) step.random with_inviter whole → Appends (init_record set) step start whole
+unfolding init_record
+init_appended set step start with_kind with_set with_height with_inviter whole kind keys height inviter random =
+    let id : Digest = record { 0 = step.inviter } in
+    shaped_appended _ _ (tt, (tt, (tt, (id, step.random)))) start whole
+    (behind_appended _ _ tt _ start with_kind whole kind
+    (behind_appended _ _ tt _ with_kind with_set whole keys
+    (behind_appended _ _ tt _ with_set with_height whole height
+    (behind_appended _ _ id step.random with_height with_inviter whole inviter random)))) refl
+
+-- its size
+pub init_size : (set : ℕ) (bytes : List ℕ) (step : Step) → Spells (init_record set) bytes step → length bytes ≡ 67
+unfolding init_record known digest bytes_of
+init_size set bytes step (fields, (f1, b1, e1, (kind, k), (f2, b2, e2, (keys, s), (f3, b3, e3, (height, h), (f4, b4, e4, (inviter, i), (random, r))))), fits, is) =
+    omega (
+      arith,
+      ap length e1,
+      length-append f1 b1,
+      kind.size,
+      ap length e2,
+      length-append f2 b2,
+      keys.size,
+      ap length e3,
+      length-append f3 b3,
+      height.size,
+      ap length e4,
+      length-append f4 b4,
+      inviter.size,
+      random.size,
+    )
 
 module _ {K P : Type 0} (kem : KemGhosts K P) where
-  -- what an `init` writes is read back
-  pub step_of-record_of : (step : Step) → length step.inviter ≡ 32 → step_of (record_of kem step) ≡ step
-  step_of-record_of step size = λ i. record {
-    inviter = take_at step.inviter step.random 32 size i;
-    random = drop_at step.inviter step.random 32 size i;
-  }
+  -- the member of a record that was read
+  pub member_of-read : (set : ℕ) (bytes : List ℕ) (read : Result Step FieldFault) → set ≡ kem.SET → read_whole (init_record set) 0 bytes ≡ read
+      → member_of kem bytes ≡ with_key kem read
+  member_of-read set bytes read same is =
+      ap (λ (n : ℕ). with_key kem (read_whole (init_record n) 0 bytes)) (sym same) ∙ ap (with_key kem) is
 
-  pub is_init-record_of : (step : Step) → length step.inviter ≡ 32 → length step.random ≡ 32 → is_init kem (record_of kem step) ≡ true
-  is_init-record_of step inviter random =
-      let size : length (record_of kem step) ≡ 67 = omega (arith, length-append step.inviter step.random, inviter, random) in
-      let test : (length (record_of kem step) == 67) ≡ true = grind (arith, nat_tests) in
-      let set : (kem.SET == kem.SET) ≡ true = grind (arith, nat_tests) in
-      rw (test, set) refl
-
-  pub member_of-record_of : (step : Step) → length step.inviter ≡ 32 → length step.random ≡ 32 → has_key kem step.random ≡ true → member_of kem (record_of kem step) ≡ Some step
-  member_of-record_of step inviter random usable =
-      let init : is_init kem (record_of kem step) ≡ true = is_init-record_of step inviter random in
-      let key : has_key kem (step_of (record_of kem step)).random ≡ true = ap (λ (s : Step). has_key kem s.random) (step_of-record_of step inviter) ∙ usable in
-      rw (init, key) (ap Some (step_of-record_of step inviter))
-
-  -- one record
-  pub steps_of_one : (bytes : List ℕ) (place : ℕ) (step : Step) → length step.inviter ≡ 32 → length step.random ≡ 32 → has_key kem step.random ≡ true
-      → journal_of bytes ≡ Ok (record { place = place; bytes = record_of kem step } ∷ []) → steps_of kem bytes ≡ Ok (step ∷ [])
-  steps_of_one bytes place step inviter random usable is =
-      ap (steps_among kem) is ∙ ap (λ (m : Option Step). steps_behind m place []) (member_of-record_of step inviter random usable)
+  -- what spells a step with a usable key makes its member
+  pub member_of-spelled : (bytes : List ℕ) (step : Step) → Spells (init_record kem.SET) bytes step → has_key kem step.random ≡ true
+      → member_of kem bytes ≡ Some step
+  member_of-spelled bytes step spelled usable =
+      member_of-read kem.SET bytes (Ok step) refl (whole_read (init_record kem.SET) bytes step spelled)
+      ∙ ap (λ (b : Bool). if b then Some step else None) usable
 
   -- the first record makes no member
   pub first_other : (bytes first : List ℕ) (entries : List Entry) (place : ℕ) → journal_of bytes ≡ Ok entries → slice_get (map (λ entry. entry.bytes) entries) 0 ≡ Some first

@@ -4,6 +4,7 @@ pub mod Opening
 pub mod Parts
 pub mod Receipts
 pub mod Runs
+pub mod StepViews
 pub mod Steps
 pub mod Story
 pub mod Words

@@ -1,6 +1,9 @@
 -- The steps that a journal stands for. So far there is one: `init`, which makes the member.
-use Rattle.std.specs.Prelude.{ℕ, ◌==◌, ◌&&◌, Bool, if◌then◌else◌, List, [], ◌∷◌, ◌++◌, length, take, drop, slice_index}
-use Rattle.std.specs.Prelude.{replicate, Option, Some, None, Result, Ok, Err, is_some}
+use Rattle.std.proofs.Common.{refl}
+use Rattle.std.specs.Prelude.{ℕ, Bool, if◌then◌else◌, List, [], ◌∷◌, replicate, Option, Some, None, Result, Ok, Err, is_some}
+use Rattle.group_fields.specs.LayoutReads.{read_whole}
+use Rattle.group_fields.specs.Layouts.{Layout, bytes_of, digest, known, renamed, shaped, ◌>>=◌}
+use Rattle.group_fields.specs.declared.fault.FieldFault.{FieldFault}
 use Rattle.group_fields.specs.declared.ids.MemberId.{MemberId}
 use Rattle.kem_trait.specs.declared.kem.Kem.{Ghosts as KemGhosts}
 use Rattle.member_identity.specs.Identity.{Origin, secret_from}
@@ -19,8 +22,18 @@ abbrev pub inviter_of : Option MemberId → List ℕ
 inviter_of None = replicate 32 0
 inviter_of (Some id) = id.0.0
 
-abbrev pub step_of : List ℕ → Step
-step_of bytes = record { inviter = take 32 (drop 3 bytes); random = drop 35 bytes }
+-- the record of an `init` of a member whose keys are of a set
+unfoldable pub init_record : ℕ → Layout Step
+init_record set = shaped (do
+  kind ← known (1 ∷ [])
+  keys ← known (set ∷ [])
+  height ← known (tree_height ∷ [])
+  inviter ← digest
+  bytes_of 32)
+    (renamed
+    (λ (kind, (keys, (height, (inviter, random)))). record { inviter = inviter.0; random = random })
+    (λ step. Some (tt, (tt, (tt, (record { 0 = step.inviter }, step.random)))))
+    (λ fields. refl))
 
 -- The first record makes the member, and no second one is known yet: the steps by the member that the first one makes,
 -- by its place and by the records behind it. Otherwise the bytes are no journal at the place of the length field of the
@@ -31,22 +44,18 @@ steps_behind (Some step) place [] = Ok (step ∷ [])
 steps_behind (Some step) place (second ∷ rest) = Err second.place
 
 module _ {K P : Type 0} (kem : KemGhosts K P) where
-  -- kind 1, set, height, the inviter and the random bytes
-  abbrev pub record_of : Step → List ℕ
-  record_of step = 1 ∷ kem.SET ∷ tree_height ∷ (step.inviter ++ step.random)
-
-  abbrev pub is_init : List ℕ → Bool
-  is_init bytes =
-      length bytes == 67 && slice_index bytes 0 == 1 && slice_index bytes 1 == kem.SET
-      && slice_index bytes 2 == tree_height
-
   -- the words of the random bytes give a usable key
   abbrev pub has_key : List ℕ → Bool
   has_key random = is_some (secret_from kem random)
 
+  -- the step with a usable key, where one was read
+  abbrev pub with_key : Result Step FieldFault → Option Step
+  with_key (Ok step) = if has_key step.random then Some step else None
+  with_key (Err fault) = None
+
   -- the member that a record makes: the record is that of an `init` with a usable key
   abbrev pub member_of : List ℕ → Option Step
-  member_of bytes = if is_init bytes && has_key (step_of bytes).random then Some (step_of bytes) else None
+  member_of bytes = with_key (read_whole (init_record kem.SET) 0 bytes)
 
   abbrev pub steps_in : List Entry → Result (List Step) ℕ
   steps_in [] = Ok []

@@ -1,16 +1,19 @@
-ghost use Rattle.std.specs.Prelude.{◌≡◌, [], length, None, Ok};
+ghost use Rattle.std.specs.Prelude.{◌≡◌, [], length, true, None, Ok, IfOk, IsErrOf, OnOk};
 ghost use Rattle.std.specs.Option.{option_to_list};
+ghost use Rattle.group_fields.specs.Layouts.{Spells};
+ghost use Rattle.member_identity.specs.Identity.{secret_from};
 ghost use Rattle.member_journal.specs.Journal.{places, disk_of};
 ghost use Rattle.mailbox_cli.specs.Call.{devices, moment};
 ghost use Rattle.mailbox_cli.specs.Parts.{Tells};
-ghost use Rattle.mailbox_cli.specs.Story.{init_story, seed_story};
+ghost use Rattle.mailbox_cli.specs.Steps.{has_key, init_record};
+ghost use Rattle.mailbox_cli.specs.Story.{init_step, init_story, seed_story};
 
 use crate::answer::{refuse, say};
 use crate::devices::draw;
 use crate::ended::{Ended, Refusal};
 use crate::step::{Opened, commit, init_record, inviter_id};
 use disk_trait::Disk;
-use group_fields::MemberId;
+use group_fields::{Bytes, MemberId};
 use kem_trait::{Kem, KemRefusal};
 use mail_trait::{Entropy, Post, Sink};
 use member_identity::Identity;
@@ -60,19 +63,38 @@ fn make<K: Kem, D: Disk, P: Post, E: Entropy, S: Sink>(
         (moment (disk_of journal) post.old entropy.old out.old)
         (moment result.0 post.new entropy.new out.new) result.1 }
 {
-    let inviter = inviter_id(inviter);
-    match Identity::<K>::make(alloc, inviter, random) {
+    match made_record::<K>(alloc, inviter, random) {
         Err(KemRefusal::Memory) => (journal.close(), Ended::NO_MEMORY),
         Err(KemRefusal::NoUsableKey) => {
             let ended = refuse(alloc, Refusal::NoUsableKey, out);
             (journal.close(), ended)
         }
-        Ok(_) => match commit::<K, D>(journal, &init_record::<K>(inviter, random)) {
+        Ok(bytes) => match commit::<K, D>(journal, bytes.as_slice()) {
             Err((disk, ended)) => (disk, ended),
             Ok(journal) => {
                 let ended = say(b"made\n", Ended::DONE, out);
                 (journal.close(), ended)
             }
         },
+    }
+}
+
+/// The record of an `init` whose random bytes give a usable key.
+fn made_record<K: Kem>(
+    alloc: Global,
+    inviter: Option<MemberId>,
+    random: &[u8; 32],
+) -> Result<Bytes, KemRefusal>
+    ensures spells { IfOk result (λ bytes.
+        Spells (init_record K.SET) bytes (init_step inviter random.now)) }
+    ensures size { IfOk result (λ bytes. length bytes ≡ 67) }
+    ensures usable { OnOk result (has_key ⟦<K as Kem>⟧ random.now ≡ true) }
+    ensures unusable { IsErrOf result KemRefusal.NoUsableKey → secret_from ⟦<K as Kem>⟧ random.now ≡ None }
+{
+    let inviter = inviter_id(inviter);
+    Identity::<K>::make(alloc, inviter, random)?;
+    match init_record(alloc, K::SET, inviter, random) {
+        Ok(bytes) => Ok(bytes),
+        Err(_) => Err(KemRefusal::Memory),
     }
 }

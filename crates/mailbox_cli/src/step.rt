@@ -1,7 +1,9 @@
-ghost use Rattle.std.specs.Prelude.{◌≡◌, ◌<◌, ◌≤◌, ◌+◌, ◌++◌, take, drop, ℕ, List, [], ◌∷◌, length, slice_get, Some};
-ghost use Rattle.std.specs.Prelude.{None, Ok, Err, IfOk, IfErr, IfSome, IsErrOf, true};
+ghost use Rattle.std.specs.Prelude.{◌≡◌, ◌<◌, ◌≤◌, ◌+◌, ◌^◌, ℕ, List, [], ◌∷◌, length, slice_get, Some};
+ghost use Rattle.std.specs.Prelude.{None, Ok, Err, IfOk, IfErr, IfSome, IsErrOf, OnOk, true};
 ghost use Rattle.std.specs.Option.{option_to_list};
 ghost use Rattle.disk_trait.specs.Disk.{LeavesOnly};
+ghost use Rattle.group_fields.specs.LayoutReads.{Takes, read_whole, whole_seen};
+ghost use Rattle.group_fields.specs.Layouts.{Spells};
 ghost use Rattle.member_journal.specs.Journal.{disk_of, entries, records, places};
 ghost use Rattle.member_journal.specs.Scan.{FaultHasCause, KeepsDisk};
 ghost use Rattle.member_journal.specs.declared.fault.JournalFault.TheVariants.{NotJournal};
@@ -9,12 +11,16 @@ ghost use Rattle.member_journal.specs.Format.{most_records, longest_record};
 ghost use Rattle.mailbox_cli.specs.Opening.{disk_after, fault_in, IsNext};
 ghost use Rattle.mailbox_cli.specs.Call.{IsFaultOf};
 ghost use Rattle.mailbox_cli.specs.Parts.{DiskDid, DiskStops};
-ghost use Rattle.mailbox_cli.specs.Steps.{Step, record_of, inviter_of, is_init, has_key, step_of, member_of, steps_of};
+ghost use Rattle.mailbox_cli.specs.StepViews.{step_of};
+ghost use Rattle.mailbox_cli.specs.Steps.{Step, inviter_of, init_record, has_key, member_of, steps_of};
 ghost use Rattle.mailbox_cli.specs.Story.{Event, plans};
 
 use crate::ended::Ended;
 use disk_trait::Disk;
-use group_fields::{Digest, MemberId, Memory};
+use group_fields::{
+    Bytes, Cursor, Digest, FieldFault, MemberId, Memory, append_bytes, append_digest, append_known,
+    end, take_bytes, take_digest, take_known,
+};
 use kem_trait::{Kem, KemRefusal};
 use member_identity::Identity;
 use member_journal::{Journal, JournalFault};
@@ -26,27 +32,24 @@ const INIT: u8 = 1;
 /// The height of the signing tree of each member of this program.
 pub(crate) const TREE_HEIGHT: u8 = 10;
 
-/// The record of an `init`: kind, set, height, the inviter, 32 random bytes. 32 zero bytes stand for nobody.
-pub(crate) fn init_record<K: Kem>(inviter: MemberId, random: &[u8; 32]) -> [u8; 67]
-    ensures record { result ≡ record_of ⟦<K as Kem>⟧ (record { inviter = inviter.0.0; random = random.now }) }
-    ensures inviter { length inviter.0.0 ≡ 32 }
-    ensures random { length random.now ≡ 32 }
+/// The record of an `init` of a member whose keys are of a set.
+pub(crate) fn init_record(
+    alloc: Global,
+    set: u8,
+    inviter: MemberId,
+    random: &[u8; 32],
+) -> Result<Bytes, Memory>
+    ensures spells { IfOk result (λ bytes.
+        Spells (init_record set) bytes (record { inviter = inviter.0.0; random = random.now })) }
+    ensures size { IfOk result (λ bytes. length bytes ≡ 67) }
 {
-    let mut record = [0; 67];
-    record[0] = INIT;
-    record[1] = K::SET;
-    record[2] = TREE_HEIGHT;
-    put(&mut record, 3, &inviter.0.0);
-    put(&mut record, 35, random);
-    record
-}
-
-/// Copies a part into a buffer from a place on.
-fn put(buffer: &mut [u8], at: usize, part: &[u8])
-    requires { at + length part.now ≤ length buffer.old }
-    ensures { buffer.new ≡ take at buffer.old ++ part.now ++ drop (at + length part.now) buffer.old }
-{
-    buffer[at..at + part.len()].copy_from_slice(part);
+    let mut bytes = Vec::new(alloc);
+    append_known(&mut bytes, &[INIT])?;
+    append_known(&mut bytes, &[set])?;
+    append_known(&mut bytes, &[TREE_HEIGHT])?;
+    append_digest(&mut bytes, inviter.0)?;
+    append_bytes(&mut bytes, random)?;
+    Ok(Bytes::from(bytes))
 }
 
 /// The inviter's id, or 32 zero bytes for nobody.
@@ -129,35 +132,50 @@ fn read_member<K: Kem, D: Disk>(
 fn member_of<K: Kem>(alloc: Global, bytes: &[u8]) -> Result<Option<Identity<K>>, Memory>
     ensures { IfOk result (λ member. member ≡ member_of ⟦<K as Kem>⟧ bytes.now) }
 {
-    if !is_init_record::<K>(bytes) {
+    let Ok(init) = read_init(bytes, K::SET) else {
         return Ok(None);
-    }
-    let (inviter, random) = parts_of(bytes);
-    match Identity::make(alloc, inviter, &random) {
+    };
+    match Identity::make(alloc, init.inviter, init.random) {
         Ok(member) => Ok(Some(member)),
         Err(KemRefusal::NoUsableKey) => Ok(None),
         Err(KemRefusal::Memory) => Err(AllocError),
     }
 }
 
-/// Whether bytes are the record of an `init`.
-fn is_init_record<K: Kem>(bytes: &[u8]) -> bool
-    ensures { result ≡ is_init ⟦<K as Kem>⟧ bytes.now }
-{
-    bytes.len() == 67 && bytes[0] == INIT && bytes[1] == K::SET && bytes[2] == TREE_HEIGHT
+/// The fields of the record of an `init` that tell its member.
+#[derive(Drop)]
+struct InitRecord<'a> {
+    inviter: MemberId,
+    random: &'a [u8; 32],
 }
 
-/// The inviter's id and the random bytes in the record of an `init`.
-fn parts_of(bytes: &[u8]) -> (MemberId, [u8; 32])
-    requires { length bytes.now ≡ 67 }
-    ensures inviter { result.0.0.0 ≡ (step_of bytes.now).inviter }
-    ensures random { result.1 ≡ (step_of bytes.now).random }
+/// The fields of the record of an `init` of a member whose keys are of a set.
+#[tactic(auto, unfolding(crate::specs::Steps::init_record, group_fields::specs::LayoutReads::read))]
+fn take_init<'a>(cursor: &mut Cursor<'a>, set: u8) -> Result<InitRecord<'a>, FieldFault>
+    requires { cursor.old.place < 2 ^ 31 }
+    ensures takes { Takes step_of (init_record set) cursor.old cursor.new result }
+    ensures moved { OnOk result (cursor.new.place ≡ cursor.old.place + 67) }
 {
-    let mut inviter = [0; 32];
-    inviter.copy_from_slice(&bytes[3..35]);
-    let mut random = [0; 32];
-    random.copy_from_slice(&bytes[35..]);
-    (MemberId(Digest(inviter)), random)
+    take_known(cursor, &[INIT])?;
+    take_known(cursor, &[set])?;
+    take_known(cursor, &[TREE_HEIGHT])?;
+    let inviter = take_digest(cursor)?;
+    let random = take_bytes(cursor, 32)?;
+    Ok(InitRecord {
+        inviter: MemberId(inviter),
+        random: random.as_array().unwrap(),
+    })
+}
+
+/// The fields of the record of an `init`, and nothing may be left over.
+#[tactic(auto, using(group_fields::proofs::WholeReads::whole_end, group_fields::proofs::WholeReads::whole_stop))]
+fn read_init(bytes: &[u8], set: u8) -> Result<InitRecord<'_>, FieldFault>
+    ensures { read_whole (init_record set) 0 bytes.now ≡ whole_seen step_of result }
+{
+    let mut cursor = Cursor::new(bytes);
+    let init = take_init(&mut cursor, set)?;
+    end(&mut cursor)?;
+    Ok(init)
 }
 
 /// Makes a step durable by its record.

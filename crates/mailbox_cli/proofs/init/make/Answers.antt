@@ -1,12 +1,12 @@
-use Rattle.std.proofs.Common.{◌≡◌, [], ◌∷◌, is_some, ℕ, List, length, None, Ok, refl, sym, ◌∙◌, ap, inr, rules}
+use Rattle.std.proofs.Common.{◌≡◌, [], ◌∷◌, is_some, ℕ, List, None, Ok, refl, sym, ap, subst, inr, rules}
+use Rattle.group_fields.specs.Layouts.{Spells}
 use Rattle.member_identity.specs.Identity.{secret_from}
 use Rattle.member_journal.specs.Journal.{disk_of}
 use Rattle.mailbox_cli.specs.Call.{Devices, Moment, devices, moment}
 use Rattle.mailbox_cli.specs.Lines.{made_line}
 use Rattle.mailbox_cli.specs.Opening.{IsNext}
-use Rattle.mailbox_cli.specs.Parts.{Says}
-use Rattle.mailbox_cli.specs.Steps.{Step, record_of}
-use Rattle.mailbox_cli.specs.Story.{Event, plans, says, init_step, seed_story, steps_after}
+use Rattle.mailbox_cli.specs.Steps.{Step, init_record}
+use Rattle.mailbox_cli.specs.Story.{plans, says, init_step, seed_story, steps_after}
 use Rattle.mailbox_cli.specs.declared.ended.Refusal.TheVariants.{NoUsableKey}
 use Rattle.mailbox_cli.proofs.Disks.{Laws}
 use Rattle.mailbox_cli.proofs.Making.{init_next, seed_lacks, seed_plans, seed_refuses}
@@ -38,11 +38,9 @@ returns-in-Err g c =
     let m : Moment _ _ _ _ = moment (disk_of c.args.journal) c.args.post.now c.args.entropy.now c.args.out.now in
     let laws : Laws g.D.Disk = record { shows = g.met.D.Disk.content_is_image; since = g.met.D.Disk.counts_now; only = g.met.D.Disk.only_now } in
     let step : Step = init_step c.args.inviter c.args.random.now in
-    let named : c.init_record.result ≡ record_of g.K.Kem step = c.init_record.ensures.record
-    ∙ ap (λ (id : List ℕ). record_of g.K.Kem (record { inviter = id; random = c.args.random.now })) c.inviter_id-inviter.ensures in
-    let size : length step.inviter ≡ 32 = ap length (sym c.inviter_id-inviter.ensures) ∙ c.init_record.ensures.inviter in
-    let next : IsNext g.K.Kem c.args.journal c.init_record.result [] step = init_next g.K.Kem c.args.journal c.init_record.result step c.requires named
-    size c.init_record.ensures.random c.in-Ok.ensures.usable in
+    let spelled = subst (λ (bytes : List ℕ). Spells (init_record g.K.Kem.SET) bytes step) (sym c.as_slice.ensures) c.in-Ok.ensures.spells in
+    let next : IsNext g.K.Kem c.args.journal c.as_slice.result.now [] step = init_next g.K.Kem c.args.journal c.as_slice.result.now step c.requires spelled
+    c.in-Ok.ensures.usable in
     fails_plan on g.K.Kem laws (Ok []) m c.in-Err.ended (λ seeds. seed_story g.K.Kem c.args.inviter c.args.random.now) c.in-Err.disk step (says made_line)
     (seed_plans g.K.Kem c.args.inviter c.args.random.now c.in-Ok.ensures.usable)
     (λ told reads. c.in-Err.ensures.stops told [] step (says made_line) next) c.in-Err.ensures.cause
@@ -53,11 +51,9 @@ returns g c =
     let m : Moment _ _ _ _ = moment (disk_of c.args.journal) c.args.post.now c.args.entropy.now c.args.out.now in
     let laws : Laws g.D.Disk = record { shows = g.met.D.Disk.content_is_image; since = g.met.D.Disk.counts_now; only = g.met.D.Disk.only_now } in
     let step : Step = init_step c.args.inviter c.args.random.now in
-    let named : c.init_record.result ≡ record_of g.K.Kem step = c.init_record.ensures.record
-    ∙ ap (λ (id : List ℕ). record_of g.K.Kem (record { inviter = id; random = c.args.random.now })) c.inviter_id-inviter.ensures in
-    let size : length step.inviter ≡ 32 = ap length (sym c.inviter_id-inviter.ensures) ∙ c.init_record.ensures.inviter in
-    let next : IsNext g.K.Kem c.args.journal c.init_record.result [] step = init_next g.K.Kem c.args.journal c.init_record.result step c.requires named
-    size c.init_record.ensures.random c.in-Ok.ensures.usable in
+    let spelled = subst (λ (bytes : List ℕ). Spells (init_record g.K.Kem.SET) bytes step) (sym c.as_slice.ensures) c.in-Ok.ensures.spells in
+    let next : IsNext g.K.Kem c.args.journal c.as_slice.result.now [] step = init_next g.K.Kem c.args.journal c.as_slice.result.now step c.requires spelled
+    c.in-Ok.ensures.usable in
     let mid : Moment _ _ _ _ = moment (disk_of c.in-Ok-commit.journal) c.args.post.now c.args.entropy.now c.args.out.now in
     let last : Moment _ _ _ _ = moment (disk_of c.in-Ok-commit.journal) c.args.post.now c.args.entropy.now c.say-ended.new.out in
     rw c.close-in-Ok-commit.ensures (tells_on on g.K.Kem laws (Ok []) m mid last (plans step ∷ [])
