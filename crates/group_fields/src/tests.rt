@@ -2,79 +2,63 @@ mod cards;
 mod fields;
 
 use super::*;
-use std::test::Fail;
+use std::alloc::{AllocError, Global};
+
+// Whether copies of a text, and what is made of them, are what they were made of.
+fn copies(alloc: Global, case: &str) -> Result<bool, AllocError> {
+    let bytes = Bytes::copy_of(alloc, case.as_bytes())?;
+    let text = Text::copy_of(alloc, case)?;
+    let same = bytes.as_slice() == case.as_bytes()
+        && bytes.len() == case.len()
+        && bytes.is_empty() == case.is_empty()
+        && text.as_str() == case
+        && text.as_bytes() == case.as_bytes();
+    let bytes = Bytes::from(bytes.into_vec());
+    let text = Text::from(text.into_string());
+    Ok(same && bytes.as_slice() == case.as_bytes() && text.as_str() == case)
+}
+
+// What a reader takes, and where it is then.
+fn taken(cursor: &mut Cursor<'static>, count: usize) -> (Option<&'static [u8]>, usize) {
+    let part = cursor.take(count);
+    (part, cursor.place())
+}
+
+// Counts with one failure and one want more.
+fn raised(mut counts: Counts) -> Counts {
+    counts.add_fault();
+    counts.add_want();
+    counts
+}
 
 #[test]
-fn copies_and_gives_back(rt: HostRuntime) -> Result<(), Fail> {
+fn values_are_what_they_were_made_of(rt: HostRuntime) -> Result<(), AllocError> {
     let alloc = rt.alloc();
     for case in ["", "a", "caf\u{e9}"] {
-        let bytes = Bytes::copy_of(alloc, case.as_bytes())?;
-        assert_eq!(rt; bytes.as_slice(), case.as_bytes());
-        assert_eq!(rt; bytes.len(), case.len());
-        assert_eq!(rt; bytes.is_empty(), case.is_empty());
-        let again = Bytes::from(bytes.into_vec());
-        assert_eq!(rt; again.as_slice(), case.as_bytes());
-
-        let text = Text::copy_of(alloc, case)?;
-        assert_eq!(rt; text.as_str(), case);
-        assert_eq!(rt; text.as_bytes(), case.as_bytes());
-        let again = Text::from(text.into_string());
-        assert_eq!(rt; again.as_str(), case);
+        assert!(rt; copies(alloc, case)?, "copies of {case}");
     }
-    Ok(())
-}
 
-#[test]
-fn reader_takes_what_is_left(rt: HostRuntime) {
     let mut cursor = Cursor::new(b"abcde");
-    let cases = [
-        (2, Some("ab"), 2),
-        (0, Some(""), 2),
+    let cases: [(usize, Option<&[u8]>, usize); 7] = [
+        (2, Some(b"ab"), 2),
+        (0, Some(b""), 2),
         (4, None, 2),
         (usize::MAX, None, 2),
-        (3, Some("cde"), 5),
+        (3, Some(b"cde"), 5),
         (1, None, 5),
-        (0, Some(""), 5),
+        (0, Some(b""), 5),
     ];
-    for (count, want, place) in cases {
-        match (cursor.take(count), want) {
-            (Some(part), Some(want)) => assert_eq!(rt; part, want.as_bytes()),
-            (part, want) => assert_eq!(rt; part.is_none(), want.is_none(), "take {count}"),
-        }
-        assert_eq!(rt; cursor.place(), place, "after take {count}");
+    for (count, part, place) in cases {
+        assert_eq!(rt; taken(&mut cursor, count), (part, place), "take {count}");
     }
-}
 
-#[test]
-fn counts_stand_still_at_the_greatest(rt: HostRuntime) {
-    for (faults, want) in [(0, 1), (7, 8), (u64::MAX, u64::MAX)] {
-        let mut counts = Counts { faults, wants: 5 };
-        counts.add_fault();
-        assert_eq!(rt;
-            counts,
-            Counts {
-                faults: want,
-                wants: 5
-            }
-        );
-        let mut counts = Counts {
-            faults: 5,
-            wants: faults,
+    for (faults, wants) in [(0, u64::MAX), (7, 0), (u64::MAX, 7)] {
+        let want = Counts {
+            faults: faults.saturating_add(1),
+            wants: wants.saturating_add(1),
         };
-        counts.add_want();
-        assert_eq!(rt;
-            counts,
-            Counts {
-                faults: 5,
-                wants: want
-            }
-        );
+        assert_eq!(rt; raised(Counts { faults, wants }), want);
     }
-    assert_eq!(rt;
-        Counts::NONE,
-        Counts {
-            faults: 0,
-            wants: 0
-        }
-    );
+    assert_eq!(rt; Counts::NONE.faults + Counts::NONE.wants, 0);
+    Ok(())
 }
