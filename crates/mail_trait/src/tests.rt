@@ -118,15 +118,22 @@ fn sunk(alloc: Global) -> Result<String, Fail> {
     Ok(String::from_str(alloc, str::from_utf8(sink.bytes())?)?)
 }
 
-/// A plain file that would survive a loss of power.
-fn stored(alloc: Global, bytes: &[u8]) -> Result<StoredFile, Memory> {
-    Ok(StoredFile {
-        bytes: Bytes::copy_of(alloc, bytes)?,
+/// Puts a file that would survive a loss of power under a path.
+fn place(
+    files: &mut MemFiles,
+    alloc: Global,
+    path: &str,
+    bytes: &str,
+    is_plain: bool,
+) -> Result<(), Memory> {
+    let file = StoredFile {
+        bytes: Bytes::copy_of(alloc, bytes.as_bytes())?,
         is_synced: true,
         is_named: true,
-        is_plain: true,
+        is_plain,
         is_private: false,
-    })
+    };
+    files.place(path, file)
 }
 
 /// The bytes under a path, with a mark for each of bytes and name that would not survive a loss of power.
@@ -153,12 +160,14 @@ struct Calls {
 
 fn folder_of(alloc: Global, calls: Calls) -> Result<DirPost<MemFiles>, Fail> {
     let mut files = MemFiles::new(alloc, calls.failing, calls.error, calls.most)?;
-    files.place("mail/a", stored(alloc, b"old")?)?;
-    files.place("mail/b", stored(alloc, b"other")?)?;
-    files.place("mail/.unfinished-7", stored(alloc, b"half")?)?;
-    let mut pipe = stored(alloc, b"")?;
-    pipe.is_plain = false;
-    files.place("mail/pipe", pipe)?;
+    for (path, bytes) in [
+        ("mail/a", "old"),
+        ("mail/b", "other"),
+        ("mail/.unfinished-7", "half"),
+    ] {
+        place(&mut files, alloc, path, bytes, true)?;
+    }
+    place(&mut files, alloc, "mail/pipe", "", false)?;
     Ok(DirPost::new(alloc, files, Text::copy_of(alloc, "mail")?))
 }
 
@@ -237,35 +246,51 @@ fn write_with(alloc: Global, calls: Calls) -> Result<String, Fail> {
 
 const FOLDER: &str = "dir_post_test";
 
-/// Fails each call of a folder that isn't there, and each that names no plain file.
+/// Which calls of a folder fail: a listing, reads, and puts, some of which name no plain file.
 fn refusals<P: Post>(alloc: Global, post: &mut P) -> Result<String, AllocError> {
     let list = post.list().is_err();
-    let read = post.read("a", 1).is_err();
-    let put = post.put("a", b"").is_err();
-    let folder = post.read("sub", 1).is_err() && post.put("sub", b"x").is_err();
-    let slash = post.put("sub/x", b"x").is_err();
-    let temporary = post.put(".unfinished-1", b"x").is_err();
-    format!(in alloc; "{list} {read} {put} {folder} {slash} {temporary}")
+    let mut text = format!(in alloc; "{list}")?;
+    for name in ["a", "sub"] {
+        let read = post.read(name, 1).is_err();
+        text.push_str(format!(in alloc; " {read}")?.as_str())?;
+    }
+    for name in ["a", "sub", "sub/x", ".unfinished-1"] {
+        let put = post.put(name, b"").is_err();
+        text.push_str(format!(in alloc; " {put}")?.as_str())?;
+    }
+    Ok(text)
 }
 
-fn real_folder(rt: &HostRuntime) -> Result<String, Fail> {
-    let alloc = rt.alloc();
+fn post_over(rt: &HostRuntime) -> Result<DirPost<RealFiles<HostRuntime>>, Fail> {
+    let folder = Text::copy_of(rt.alloc(), FOLDER)?;
+    Ok(DirPost::new(rt.alloc(), RealFiles::new(rt.clone()?), folder))
+}
+
+/// What a folder that is not there answers; and then it is there, and has a folder and an unfinished file.
+fn missing_folder(rt: &HostRuntime) -> Result<String, Fail> {
     let _ = fs::remove_dir_all(rt, FOLDER);
-    let mut post = DirPost::new(
-        alloc,
-        RealFiles::new(rt.clone()?),
-        Text::copy_of(alloc, FOLDER)?,
-    );
-    let missing = refusals(alloc, &mut post)?;
+    let missing = refusals(rt.alloc(), &mut post_over(rt)?)?;
     fs::create_dir(rt, FOLDER)?;
     fs::create_dir(rt, "dir_post_test/sub")?;
     fs::write(rt, "dir_post_test/.unfinished-0", "half")?;
+    Ok(missing)
+}
+
+/// What it answers after it was filled, and how many names it has.
+fn filled_folder(rt: &HostRuntime) -> Result<String, Fail> {
+    let mut post = post_over(rt)?;
     fill_post(&mut post)?;
-    let told = told_by(alloc, &mut post)?;
-    let refused = refusals(alloc, &mut post)?;
+    let told = told_by(rt.alloc(), &mut post)?;
+    let refused = refusals(rt.alloc(), &mut post)?;
     let count = fs::read_dir(rt, FOLDER)?.count();
+    Ok(format!(in rt.alloc(); "{told}/{refused}/{count}")?)
+}
+
+fn real_folder(rt: &HostRuntime) -> Result<String, Fail> {
+    let missing = missing_folder(rt)?;
+    let filled = filled_folder(rt)?;
     fs::remove_dir_all(rt, FOLDER)?;
-    Ok(format!(in alloc; "{missing}/{told}/{refused}/{count}")?)
+    Ok(format!(in rt.alloc(); "{missing}/{filled}")?)
 }
 
 fn draws(rt: &HostRuntime) -> Result<bool, Fail> {
@@ -459,7 +484,7 @@ fn devices_keep_what_they_are_given(rt: HostRuntime) -> Result<(), Fail> {
         (sunk(rt.alloc())?, "one three"),
         (
             real_folder(&rt)?,
-            "true true true true true true/a=5;b=10; first  second second one - -/false false false true true true/4",
+            "true true true true true true true/a=5;b=10; first  second second one - -/false false true false true true true/4",
         ),
     ];
     for (told, want) in rows.iter() {
