@@ -15,7 +15,7 @@ loop-i-preserved g c =
     let len = c.loop-i.invariant.0 in
     let cast : to_z w16 (of_z w16 c.center.result) ≡ c.center.result = omega (arith, ints) in (
       length-set c.loop-i.coefficients _ _ ∙ len,
-      written (λ k x. IsCentred (to_z w32 g.row.M) x) c.loop-i.coefficients c.loop-i.i _ c.center.result (omega arith) cast c.loop-i.invariant.1 c.center.ensures.centred,
+      written (λ k x. IsCentred (to_z w32 g.row.M) x) c.loop-i.coefficients c.loop-i.i _ c.center.result (pos 0) (omega arith) cast c.loop-i.invariant.1 c.center.ensures.centred,
     )
 
 pub returns : goal.returns
