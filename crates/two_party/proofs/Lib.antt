@@ -1,0 +1,4 @@
+pub mod Drops
+pub mod NextParts
+pub mod Openings
+pub mod Received

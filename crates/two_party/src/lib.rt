@@ -1,0 +1,11 @@
+//! Two-party messaging: numbered parts between two members, each sealed to the newest key that its sender knows of the
+//! other, and each with new keys for both, so that they open however the two directions cross.
+#![tactic(auto)]
+
+mod draws;
+mod pairing;
+mod reading;
+mod writing;
+
+pub use draws::PartDraw;
+pub use pairing::Pairing;
