@@ -1,4 +1,6 @@
+pub mod Drawing
 pub mod Drops
 pub mod NextParts
 pub mod Openings
+pub mod Places
 pub mod Received

@@ -1,11 +1,11 @@
 -- The next part from its fields.
-use Rattle.std.proofs.Common.{◌≡◌, ℕ, ◌+◌, ◌-◌, ◌^◌, ◌<◌, true, ◌∷◌, ◌++◌, length, Option, Some, None, refl, sym, ◌∙◌, ap, ap₂, option_map}
+use Rattle.std.proofs.Common.{◌≡◌, ◌+◌, ◌-◌, ◌^◌, ◌<◌, true, ◌∷◌, ◌++◌, length, Option, Some, None, sym, ◌∙◌, ap, ap₂, option_map}
 use Rattle.std.specs.Int.{w32, to_be_bytes}
 use Rattle.kem_trait.specs.declared.kem.Kem.{Ghosts}
 use Rattle.hkdf_seal.specs.Sealing.{sealed_with_tag}
 use Rattle.group_model.specs.Sets.{Bytes}
 use Rattle.group_model.specs.Primitives.{Content, Encapsulation}
-use Rattle.group_model.specs.Pairing.{Part, Draws, sealed_part}
+use Rattle.group_model.specs.Pairing.{Draws, sealed_part}
 use Rattle.group_parts.specs.KeyPairs.{encapsulation}
 use Rattle.group_parts.specs.Contents.{is_content, content_bytes, content_written}
 use Rattle.group_parts.specs.Parts.{origin_of, part_bytes}

@@ -12,7 +12,7 @@ use Rattle.kem_trait.specs.declared.kem.Kem.{Ghosts}
 use Rattle.hkdf_seal.specs.Sealing.{opened, opened_by_tag, sealed, tag_of}
 use Rattle.group_model.specs.Sets.{Bytes}
 use Rattle.group_model.specs.Primitives.{Content}
-use Rattle.group_model.specs.Pairing.{Part, opened_by}
+use Rattle.group_model.specs.Pairing.{opened_by}
 use Rattle.group_model.proofs.ListFacts.{yes_is, no_is, test}
 use Rattle.group_parts.specs.Contents.{content_len, content_in, is_content, content_read}
 use Rattle.group_keys.specs.Primitives.{primitives_of}

@@ -7,5 +7,5 @@ mod pairing;
 mod reading;
 mod writing;
 
-pub use draws::PartDraw;
+pub use draws::{PartDraw, PartDraws, draw_parts};
 pub use pairing::Pairing;

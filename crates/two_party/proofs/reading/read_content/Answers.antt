@@ -1,4 +1,4 @@
-use Rattle.std.proofs.Common.{rules, refl, ap, ◌∙◌, sym, ◌≡◌, ◌+◌, ◌++◌, List, ℕ, take, drop}
+use Rattle.std.proofs.Common.{rules, ap, ◌∙◌, ◌≡◌, ◌+◌, ◌++◌, List, ℕ, take, drop}
 use Rattle.std.specs.Int.{w32, from_be_bytes}
 use Rattle.two_party.proofs.Openings.{read-is, read-some, read-none}
 use Rattle.two_party.proofs.reading.read_content.Goals as goal
