@@ -9,3 +9,6 @@ mod writing;
 
 pub use draws::{PartDraw, PartDraws, draw_parts};
 pub use pairing::Pairing;
+
+#[cfg(test)]
+mod tests;
