@@ -3,11 +3,13 @@
 #![tactic(auto)]
 
 mod draws;
+mod laws;
 mod pairing;
 mod reading;
 mod writing;
 
 pub use draws::{PartDraw, PartDraws, draw_parts};
+pub use laws::{draws_are_taken_once, parts_open};
 pub use pairing::Pairing;
 
 #[cfg(test)]
