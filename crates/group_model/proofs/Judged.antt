@@ -1,11 +1,12 @@
 -- Tests of validity and of addressees.
-use Rattle.std.proofs.Common.{◌≡◌, ◌+◌, Bool, true, false, inl, inr, List, [], ◌∷◌, refl, sym, subst, ap, length, nat_eq, nat_lt}
+use Rattle.std.proofs.Common.{◌≡◌, ◌+◌, Bool, true, false, inl, inr, List, [], ◌∷◌, Option, Some, None, IsSome, refl, sym, subst, ap, length, nat_eq, nat_lt}
+use Rattle.std.specs.Prelude.{is_some}
 use Rattle.std.specs.Str.{bytes_eq}
 use Rattle.group_model.specs.Sets.{Id, In, has}
 use Rattle.group_model.specs.Messages.{Kind, Create, Update, Remove, Add, Ack, AddAck, Text, Message, History, past, with_past}
 use Rattle.group_model.specs.Membership.{Names, Named, IsMembershipRule, InView, IsRecipient, IsForwardedTo, IsHandedTo, IsAddressee, AreAddressees, ids_named}
 use Rattle.group_model.specs.Validity.{Answers, count_of, HasStepped, MayAck, MeetsKind, IsUnanswered, AnswersOne, AnswersNone, IsInTurn, Opens, GoesOn, MayFollow}
-use Rattle.group_model.proofs.ListFacts.{In-cases}
+use Rattle.group_model.proofs.ListFacts.{In-cases, some_same}
 use Rattle.group_model.proofs.Pasts.{past-within}
 use Rattle.group_model.proofs.RemoveWins.{ids_named-Named, Named-ids_named}
 use Rattle.group_model.proofs.Says.{Says, both, either, opposite, any, each, says-other, says-and, says-or, says-not, says-if, says-any, says-each, says-same, says-has, says-yes, says-no, both-true, either-true, any-true, each-true}
@@ -92,6 +93,18 @@ same-message_eq a b e =
       predecessors = p j;
       body = d j;
     }
+
+-- the inviter that a card names, where it names one
+abbrev pub is_for : Option Id → Id → Bool
+is_for None s = false
+is_for (Some i) s = bytes_eq i s
+
+says-for : (o : Option Id) (s : Id) → Says (is_for o s) (o ≡ Some s)
+says-for None s = says-no (λ p. cc)
+says-for (Some i) s = says-other (λ e. ap Some e) (λ e. some_same e) (says-same i s)
+
+says-some : (o : Option Id) → Says (is_some o) (IsSome o)
+says-some o = record { holds = λ e. e; told = λ e. e }
 
 -- who is named
 abbrev pub is_named : History → Id → Bool
@@ -248,21 +261,21 @@ module _ (rule : History → List Id) where
   abbrev pub may_add_ack : History → Id → Id → Bool
   may_add_ack p s i = each (λ (o : Message). either (opposite (bytes_eq o.id i)) (adds_another o.kind s)) p
 
-  abbrev pub meets_kind : (inviter : Id → Id) → History → Id → Kind → Bool
+  abbrev pub meets_kind : (inviter : Id → Option Id) → History → Id → Kind → Bool
   meets_kind inviter p s (Create members) = false
   meets_kind inviter p s Update = true
   meets_kind inviter p s (Remove y) = both (has (rule p) y) (opposite (bytes_eq y s))
-  meets_kind inviter p s (Add y) = both (opposite (is_named p y)) (both (bytes_eq (inviter y) s) (nat_lt (length (ids_named p)) 32))
+  meets_kind inviter p s (Add y) = both (opposite (is_named p y)) (both (is_for (inviter y) s) (nat_lt (length (ids_named p)) 32))
   meets_kind inviter p s (Ack i took) = may_ack p s i took
   meets_kind inviter p s (AddAck i) = may_add_ack p s i
   meets_kind inviter p s Text = has_stepped p s
 
-  kind-where : (inviter : Id → Id) (p : History) (s : Id) (k : Kind) → meets_kind inviter p s k ≡ true → MeetsKind rule inviter p s k
+  kind-where : (inviter : Id → Option Id) (p : History) (s : Id) (k : Kind) → meets_kind inviter p s k ≡ true → MeetsKind rule inviter p s k
   kind-where inviter p s (Create members) e = cc
   kind-where inviter p s Update e = tt
   kind-where inviter p s (Remove y) e = (says-and (says-has (rule p) y) (says-not (says-same y s))).holds e
   kind-where inviter p s (Add y) e =
-      let k = (says-and (says-not (says-named p y)) (says-and (says-same (inviter y) s) (says-less (length (ids_named p)) 32))).holds e in
+      let k = (says-and (says-not (says-named p y)) (says-and (says-for (inviter y) s) (says-less (length (ids_named p)) 32))).holds e in
       (k.0, k.1.0, k.1.1)
   kind-where inviter p s (Ack i took) e = ack-where p s i took e
   kind-where inviter p s (AddAck i) e = λ o j d. (says-if (says-same o.id i) (says-adds_another o.kind s)).holds
@@ -270,9 +283,9 @@ module _ (rule : History → List Id) where
   kind-where inviter p s Text e = (says-stepped p s).holds e
 
   -- what opens a history
-  abbrev pub opens_by : (inviter : Id → Id) → Message → Kind → Bool
+  abbrev pub opens_by : (inviter : Id → Option Id) → Message → Kind → Bool
   opens_by inviter m (Create members) = both (ids_eq m.predecessors []) (both (nat_eq m.seq 1) (both (has members m.sender)
-      (each (λ y. either (bytes_eq y m.sender) (bytes_eq (inviter y) m.sender)) members)))
+      (each (λ y. both (is_some (inviter y)) (either (bytes_eq y m.sender) (is_for (inviter y) m.sender))) members)))
   opens_by inviter m Update = false
   opens_by inviter m (Remove y) = false
   opens_by inviter m (Add y) = false
@@ -280,17 +293,17 @@ module _ (rule : History → List Id) where
   opens_by inviter m (AddAck i) = false
   opens_by inviter m Text = false
 
-  opens-where : (inviter : Id → Id) (m : Message) (k : Kind) → m.kind ≡ k → opens_by inviter m k ≡ true → Opens inviter m
+  opens-where : (inviter : Id → Option Id) (m : Message) (k : Kind) → m.kind ≡ k → opens_by inviter m k ≡ true → Opens inviter m
   opens-where inviter m (Create members) d e =
       let k = (says-and (says-ids m.predecessors []) (says-and (says-equal m.seq 1) (says-and (says-has members m.sender)
-      (says-each (λ y. says-or (says-same y m.sender) (says-same (inviter y) m.sender)) members)))).holds e in
+      (says-each (λ y. says-and (says-some (inviter y)) (says-or (says-same y m.sender) (says-for (inviter y) m.sender))) members)))).holds e in
       record {
         members = members;
         creates = d;
         first = k.0;
         number = k.1.0;
         among = k.1.1.0;
-        invited = λ y i n. elim (k.1.1.1 y i) [ inl q ↦ absurd (n q) | inr q ↦ q ];
+        invited = λ y i. let t = k.1.1.1 y i in (t.0, λ n. elim t.1 [ inl q ↦ absurd (n q) | inr q ↦ q ]);
       }
   opens-where inviter m Update d e = cc
   opens-where inviter m (Remove y) d e = cc
@@ -300,11 +313,11 @@ module _ (rule : History → List Id) where
   opens-where inviter m Text d e = cc
 
   -- what goes on
-  abbrev pub goes_on : (inviter : Id → Id) → History → Message → Bool
+  abbrev pub goes_on : (inviter : Id → Option Id) → History → Message → Bool
   goes_on inviter p m = both (is_named p m.sender) (both (has (rule p) m.sender) (both (nat_eq m.seq (count_of m.sender p + 1))
       (both (meets_kind inviter p m.sender m.kind) (both (is_in_turn p m.sender m.kind) (are_heads p m.predecessors)))))
 
-  goes_on-where : (inviter : Id → Id) (p : History) (m : Message) → goes_on inviter p m ≡ true → GoesOn rule inviter p m
+  goes_on-where : (inviter : Id → Option Id) (p : History) (m : Message) → goes_on inviter p m ≡ true → GoesOn rule inviter p m
   goes_on-where inviter p m e =
       let a = both-true (is_named p m.sender) _ e in
       let b = both-true (has (rule p) m.sender) _ a.1 in
@@ -320,11 +333,11 @@ module _ (rule : History → List Id) where
         heads = heads-where p m.predecessors f.1;
       }
 
-  abbrev pub may_follow : (inviter : Id → Id) → History → Message → Bool
+  abbrev pub may_follow : (inviter : Id → Option Id) → History → Message → Bool
   may_follow inviter [] m = opens_by inviter m m.kind
   may_follow inviter (l ∷ older) m = goes_on inviter (past (l ∷ older) m.predecessors) m
 
-  pub follow-where : (inviter : Id → Id) (h : History) (m : Message) → may_follow inviter h m ≡ true → MayFollow rule inviter h m
+  pub follow-where : (inviter : Id → Option Id) (h : History) (m : Message) → may_follow inviter h m ≡ true → MayFollow rule inviter h m
   follow-where inviter [] m e = opens-where inviter m m.kind refl e
   follow-where inviter (l ∷ older) m e = goes_on-where inviter (past (l ∷ older) m.predecessors) m e
 

@@ -1,5 +1,5 @@
 -- The example of three members, by a play of it.
-use Rattle.std.proofs.Common.{◌≡◌, ℕ, Bool, true, false, cond, List, [], ◌∷◌, Option, Some, refl, sym, ◌∙◌, ap, codes}
+use Rattle.std.proofs.Common.{◌≡◌, ℕ, Bool, true, false, cond, List, [], ◌∷◌, Option, Some, IsSome, refl, sym, ◌∙◌, ap, codes}
 use Rattle.std.specs.Str.{bytes_eq}
 use Rattle.group_model.specs.Sets.{Bytes, Id, here}
 use Rattle.group_model.specs.Messages.{History, past}
@@ -31,16 +31,21 @@ pub pair_tested : (x : Id) → toy.is_pair (secret_of x) (public_of (secret_of x
 unfolding toy
 pair_tested x = (says-same (public_of (secret_of x)) (public_of (secret_of x))).told refl
 
+pub encapsulates_toy : (public seed : Bytes) → IsSome (toy.encapsulate public seed)
+unfolding toy
+encapsulates_toy public seed = refl
+
 unfoldable pub setting : Setting
 setting = record {
   primitives = toy;
   rule = remove_wins;
-  inviter = λ y. cond (bytes_eq y cyd) bob ada;
+  inviter = λ y. Some (cond (bytes_eq y cyd) bob ada);
   public_key = λ y. public_of (secret_of y);
   members = ada ∷ bob ∷ cyd ∷ [];
   secret_key = secret_of;
   is_rule = remove_wins-rule;
   tested = λ x i. pair_tested x;
+  encapsulates = λ y seed h. encapsulates_toy (public_of (secret_of y)) seed;
 }
 
 -- 32 random bytes by one number, and a text

@@ -1,10 +1,10 @@
 -- A valid history in which nothing is forked: the messages of a sender are a chain.
-use Rattle.std.proofs.Common.{◌≡◌, inl, inr, [], ◌∷◌, List, refl, sym, ◌∙◌, ap, subst}
+use Rattle.std.proofs.Common.{◌≡◌, inl, inr, [], ◌∷◌, List, Option, Some, refl, sym, ◌∙◌, ap, subst}
 use Rattle.group_model.specs.Sets.{Id, In, here, there}
 use Rattle.group_model.specs.Messages.{Kind, Create, Update, Remove, Add, Ack, AddAck, Text, Message, History, past, IsHistory}
 use Rattle.group_model.specs.Membership.{Names, Named, NamedOnce}
 use Rattle.group_model.specs.Validity.{Answers, AnswersOne, IsInTurn, MeetsKind, AllValid, AreUnforked}
-use Rattle.group_model.proofs.ListFacts.{In-cases}
+use Rattle.group_model.proofs.ListFacts.{In-cases, some_same}
 use Rattle.group_model.proofs.Valids.{valid-from, each-valid, no_create, rooted}
 use Rattle.group_model.proofs.Valids.{past-self}
 use Rattle.group_model.proofs.Unforked.{all_seen}
@@ -37,7 +37,7 @@ naming (Ack i t) y n = absurd n
 naming (AddAck i) y n = absurd n
 naming Text y n = absurd n
 
-module _ (rule : History → List Id) (inviter : Id → Id) where
+module _ (rule : History → List Id) (inviter : Id → Option Id) where
   pub record Chained (h : History) : Type 0 where
     pub history : IsHistory h
     pub valid : AllValid rule inviter h
@@ -83,7 +83,7 @@ module _ (rule : History → List Id) (inviter : Id → Id) where
 
   -- what an add of the history looks at
   add_suits : (h : History) → Chained h → {b : Message} (y : Id) → In b h → b.kind ≡ Add y
-      → (Named (past h b.predecessors) y → ⊥) × (inviter y ≡ b.sender)
+      → (Named (past h b.predecessors) y → ⊥) × (inviter y ≡ Some b.sender)
   add_suits h c {b} y j e = elim (each-valid rule inviter h c.history c.valid j) [
     | inl o ↦ absurd (let f : Add y ≡ Create o.members = sym e ∙ o.creates in cc)
     | inr v ↦ (let f : MeetsKind rule inviter (past h b.predecessors) b.sender (Add y)
@@ -104,7 +104,7 @@ module _ (rule : History → List Id) (inviter : Id → Id) where
             | inr q ↦ f.0 (record { by = b; there_is = subst (λ z. In b z) (past-self m (l ∷ h) c.history) q; names = k })
           ]
           | adds d ↦
-              let s : b.sender ≡ m.sender = sym (add_suits (l ∷ h) (older c) y j d).1 ∙ f.1 in
+              let s : b.sender ≡ m.sender = some_same (sym (add_suits (l ∷ h) (older c) y j d).1 ∙ f.1) in
               f.0 (record {
                 by = b;
                 there_is = all_seen rule inviter (l ∷ h) m c.valid.0 c.valid.1 c.unforked.1 c.unforked.0 j s;

@@ -1,5 +1,5 @@
 -- One more turn keeps what members know right.
-use Rattle.std.proofs.Common.{◌≡◌, ◌≢◌, cond, ◌⊎◌, inl, inr, List, [], ◌∷◌, Some, None, refl, sym, ◌∙◌, subst, ap, true, false}
+use Rattle.std.proofs.Common.{◌≡◌, ◌≢◌, cond, ◌⊎◌, inl, inr, List, [], ◌∷◌, Option, Some, None, refl, sym, ◌∙◌, subst, ap, true, false}
 use Rattle.std.specs.Str.{bytes_eq}
 use Rattle.group_model.specs.Sets.{Id, In, here, there, Bytes}
 use Rattle.group_model.specs.Messages.{with_past, Kind, Create, Update, Remove, Add, Ack, AddAck, Text, Message, History, past, Stands, IsHistory}
@@ -14,7 +14,7 @@ use Rattle.group_model.specs.Worlds.{Turn, Turns, log_of, Moment, now, once}
 use Rattle.group_model.specs.SharedSecrets.{ratchet}
 use Rattle.group_model.specs.LawfulWorlds.{WasMade, MayLeave, IsLawful}
 use Rattle.group_model.proofs.InSetting.{events, payload, known, ratchet_before, IsDue, Makes}
-use Rattle.group_model.proofs.ListFacts.{yes_is, no_is, test, In-nothing, In-cases, In-head, same_id-true}
+use Rattle.group_model.proofs.ListFacts.{yes_is, no_is, test, In-nothing, In-cases, In-head, same_id-true, some_same}
 use Rattle.group_model.proofs.Pasts.{with_past-history, past-twice, past-of_none, past-within, past-apart, deps-stand, Agree}
 use Rattle.group_model.proofs.Valids.{past-self}
 use Rattle.group_model.proofs.Views.{EachValid, LastOf, Hands, by_add, by_answer, first_view}
@@ -29,7 +29,7 @@ moment_under now k = k
 moment_under (once m) k = once (moment_under m k)
 
 -- a member sees its own message
-pub sender_sees : (rule : History → List Id) → IsMembershipRule rule → (inviter : Id → Id) (h : History) → EachValid rule inviter h
+pub sender_sees : (rule : History → List Id) → IsMembershipRule rule → (inviter : Id → Option Id) (h : History) → EachValid rule inviter h
     → {m : Message} → In m h → InView rule h m m.sender
 sender_sees rule law inviter h each {m} i = elim (each.valid m i) [
   | inl o ↦ subst (λ z. In m.sender (rule (m ∷ z))) (sym (ap (past h) o.first ∙ past-of_none h))
@@ -250,7 +250,7 @@ module _ (G : Setting) where
         elim (naming G b.kind x sn.names) [
           | creates ms d ↦ absurd (create_then_add G good_here b_here p0_here d sn.names f0.0.adds)
           | adds d ↦
-              let s0 : b.sender ≡ p0.header.sender = sym (add_suits G good_here b_here d).1 ∙ (add_suits G good_here p0_here f0.0.adds).1 in
+              let s0 : b.sender ≡ p0.header.sender = some_same (sym (add_suits G good_here b_here d).1 ∙ (add_suits G good_here p0_here f0.0.adds).1) in
               let wm : WasMade v0 p0 = f0.1.made (subst (λ z. In z G.members) s0 (inside G lm mb)) in
               let k0 : Moment (and_then x e w) p0.header.sender (Made p0 wm.given) wm.before = moment_on m0 wm.moment in
               let kb' : Moment (and_then x e w) p0.header.sender (Made mb.packet mb.given) mb.before = subst (λ z. Moment (and_then x e w) z (Made mb.packet mb.given) mb.before) s0 kb in

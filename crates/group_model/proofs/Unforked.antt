@@ -1,5 +1,5 @@
 -- Where nothing is forked, a valid message has all that its sender sent before in its past.
-use Rattle.std.proofs.Common.{◌≡◌, ◌≢◌, ℕ, ◌+◌, ◌<◌, ◌≤◌, ◌⊎◌, inl, inr, List, [], ◌∷◌, ◌++◌, refl, sym, ◌∙◌, ap, subst, arith, nat_lt}
+use Rattle.std.proofs.Common.{◌≡◌, ◌≢◌, ℕ, ◌+◌, ◌<◌, ◌≤◌, ◌⊎◌, inl, inr, List, [], ◌∷◌, ◌++◌, Option, refl, sym, ◌∙◌, ap, subst, arith, nat_lt}
 use Rattle.std.proofs.lemmas.Bool.Decides.{nat_tests}
 use Rattle.group_model.specs.Sets.{Id, In, here, there, has}
 use Rattle.group_model.specs.Messages.{Message, History, past}
@@ -68,7 +68,7 @@ split a b l = elim (test (nat_lt a b)) [
   | no_is e ↦ inl (grind (arith, nat_tests, e, l))
 ]
 
-module _ (rule : History → List Id) (inviter : Id → Id) where
+module _ (rule : History → List Id) (inviter : Id → Option Id) where
   pub next-number : (h : History) (m : Message) → MayFollow rule inviter h m → m.seq ≡ count_of m.sender (past h m.predecessors) + 1
   next-number [] m v = v.number ∙ ap (λ z. count_of m.sender z + 1) (sym (past-none m.predecessors))
   next-number (a ∷ h) m v = v.next

@@ -1,5 +1,5 @@
 -- What a valid history gives.
-use Rattle.std.proofs.Common.{◌≡◌, inl, inr, List, [], ◌∷◌, refl, sym, ◌∙◌, subst, ap}
+use Rattle.std.proofs.Common.{◌≡◌, inl, inr, List, [], ◌∷◌, Option, refl, sym, ◌∙◌, subst, ap}
 use Rattle.group_model.specs.Sets.{Id, In, here, there, has}
 use Rattle.group_model.specs.Messages.{Create, Message, History, past, Stands, IsHistory, with_past}
 use Rattle.group_model.specs.Validity.{MeetsKind, IsValid, MayFollow, AllValid}
@@ -20,20 +20,20 @@ past-self m h g = past-over m h g.1 m.predecessors g.0
 pub past-older : (m : Message) (h : History) → IsHistory (m ∷ h) → {a : Message} → In a h → past (m ∷ h) a.predecessors ≡ past h a.predecessors
 past-older m h g {a} i = past-over m h g.1 a.predecessors (deps-stand h g.2 i)
 
-pub valid-from : (rule : History → List Id) (inviter : Id → Id) (h : History) (m : Message) → MayFollow rule inviter h m → IsValid rule inviter (past h m.predecessors) m
+pub valid-from : (rule : History → List Id) (inviter : Id → Option Id) (h : History) (m : Message) → MayFollow rule inviter h m → IsValid rule inviter (past h m.predecessors) m
 valid-from rule inviter [] m v = inl v
 valid-from rule inviter (a ∷ h) m v = inr v
 
-pub each-valid : (rule : History → List Id) (inviter : Id → Id) (h : History) → IsHistory h → AllValid rule inviter h → {m : Message} → In m h → IsValid rule inviter (past h m.predecessors) m
+pub each-valid : (rule : History → List Id) (inviter : Id → Option Id) (h : History) → IsHistory h → AllValid rule inviter h → {m : Message} → In m h → IsValid rule inviter (past h m.predecessors) m
 each-valid rule inviter [] g v i = elim i [ ]
 each-valid rule inviter (m ∷ h) g v here = rw (past-self m h g) (valid-from rule inviter h m v.0)
 each-valid rule inviter (m ∷ h) g v (there {x = a} i) = subst (λ z. IsValid rule inviter z a) (sym (past-older m h g i)) (each-valid rule inviter h g.2 v.1 i)
 
 -- the one create
-pub no_create : (rule : History → List Id) (inviter : Id → Id) (a : Message) (h : History) → {m : Message} {members : List Id} → MayFollow rule inviter (a ∷ h) m → m.kind ≡ Create members → ⊥
+pub no_create : (rule : History → List Id) (inviter : Id → Option Id) (a : Message) (h : History) → {m : Message} {members : List Id} → MayFollow rule inviter (a ∷ h) m → m.kind ≡ Create members → ⊥
 no_create rule inviter a h {m} v e = subst (λ k. MeetsKind rule inviter (past (a ∷ h) m.predecessors) m.sender k) e v.suits
 
-pub one_create : (rule : History → List Id) (inviter : Id → Id) (h : History) → AllValid rule inviter h → {a b : Message} {k l : List Id} → In a h → In b h → a.kind ≡ Create k → b.kind ≡ Create l → a ≡ b
+pub one_create : (rule : History → List Id) (inviter : Id → Option Id) (h : History) → AllValid rule inviter h → {a b : Message} {k l : List Id} → In a h → In b h → a.kind ≡ Create k → b.kind ≡ Create l → a ≡ b
 one_create rule inviter [] v i j d e = elim i [ ]
 one_create rule inviter (m ∷ h) v here here d e = refl
 one_create rule inviter (m ∷ []) v here (there j) d e = elim j [ ]
@@ -43,7 +43,7 @@ one_create rule inviter (m ∷ (n ∷ h)) v (there i) here d e = absurd (no_crea
 one_create rule inviter (m ∷ h) v (there i) (there j) d e = one_create rule inviter h v.1 i j d e
 
 -- each message has the create in its past, or is it
-pub rooted : (rule : History → List Id) (inviter : Id → Id) (h : History) → IsHistory h → AllValid rule inviter h → (k : List Id) → {a m : Message} → In a h → a.kind ≡ Create k → In m h → In a (with_past h m)
+pub rooted : (rule : History → List Id) (inviter : Id → Option Id) (h : History) → IsHistory h → AllValid rule inviter h → (k : List Id) → {a m : Message} → In a h → a.kind ≡ Create k → In m h → In a (with_past h m)
 rooted rule inviter [] g v k i e j = elim i [ ]
 rooted rule inviter (m ∷ []) g v k here e here = here
 rooted rule inviter (m ∷ []) g v k (there i) e j = elim i [ ]

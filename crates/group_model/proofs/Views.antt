@@ -1,4 +1,4 @@
-use Rattle.std.proofs.Common.{◌≡◌, ◌≢◌, ◌⊎◌, inl, inr, List, [], ◌∷◌, refl, sym, ◌∙◌, subst, ap}
+use Rattle.std.proofs.Common.{◌≡◌, ◌≢◌, ◌⊎◌, inl, inr, List, [], ◌∷◌, Option, refl, sym, ◌∙◌, subst, ap}
 use Rattle.std.specs.Str.{bytes_eq}
 use Rattle.std.proofs.lemmas.Slice.Eq.{bytes_eq-Decides}
 use Rattle.group_model.specs.Sets.{Id, In, here, there, has, Within}
@@ -59,7 +59,7 @@ pub record Rooted (h : History) : Type 0 where
   pub root : (c m : Message) (members : List Id) → In c h → c.kind ≡ Create members → In m h → In c (with_past h m)
 
 -- each message is valid over its past
-pub record EachValid (rule : History → List Id) (inviter : Id → Id) (h : History) : Type 0 where
+pub record EachValid (rule : History → List Id) (inviter : Id → Option Id) (h : History) : Type 0 where
   pub history : IsHistory h
   pub valid : (m : Message) → In m h → IsValid rule inviter (past h m.predecessors) m
 
@@ -74,7 +74,7 @@ pub data Hands (h : History) (m : Message) (x : Id) : Type 0 where
   by_add : m.kind ≡ Add x → Hands h m x
   by_answer : (o : Message) → In o (past h m.predecessors) → m.kind ≡ AddAck o.id → o.kind ≡ Add x → Hands h m x
 
-module _ (rule : History → List Id) (law : IsMembershipRule rule) (inviter : Id → Id) (h : History) (g : IsHistory h) (once : NamedOnce h) (rooted : Rooted h) (each : EachValid rule inviter h) where
+module _ (rule : History → List Id) (law : IsMembershipRule rule) (inviter : Id → Option Id) (h : History) (g : IsHistory h) (once : NamedOnce h) (rooted : Rooted h) (each : EachValid rule inviter h) where
   -- what stands in the past of a message with its past stands there
   pub deeper : {m a b : Message} → In a (with_past h m) → In b (past h a.predecessors) → In b (past h m.predecessors)
   deeper {m} {a} {b} i j = elim (In-cases i) [

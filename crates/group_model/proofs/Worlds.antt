@@ -1,4 +1,4 @@
-use Rattle.std.proofs.Common.{◌≡◌, ◌≢◌, ◌⊎◌, inl, inr, List, [], ◌∷◌, refl, sym, ◌∙◌, subst, ap}
+use Rattle.std.proofs.Common.{◌≡◌, ◌≢◌, ◌⊎◌, inl, inr, List, [], ◌∷◌, Some, refl, sym, ◌∙◌, subst, ap}
 use Rattle.std.specs.Str.{bytes_eq}
 use Rattle.std.proofs.lemmas.Slice.Eq.{bytes_eq-Decides}
 use Rattle.group_model.specs.Sets.{Id, In, here, there}
@@ -11,7 +11,7 @@ use Rattle.group_model.specs.Logs.{LogEntry, Joined, Took, Made, header_of, Log,
 use Rattle.group_model.specs.Worlds.{Turn, Turns, log_of, Moment, now, once}
 use Rattle.group_model.specs.LawfulWorlds.{WasMade, MayLeave, IsLawful}
 use Rattle.group_model.proofs.InSetting.{Makes}
-use Rattle.group_model.proofs.ListFacts.{yes_is, no_is, test, In-nothing, In-cases}
+use Rattle.group_model.proofs.ListFacts.{yes_is, no_is, test, In-nothing, In-cases, some_same}
 use Rattle.group_model.proofs.Pasts.{heads-lead_back}
 use Rattle.group_model.proofs.Valids.{valid-from, each-valid, one_create, rooted}
 use Rattle.group_model.proofs.Views.{Rooted, EachValid}
@@ -204,7 +204,7 @@ module _ (G : Setting) where
   makes_all {l = l} {p = p} m a i = heads-lead_back (hist l) m.history.2 p.header.predecessors m.heads i
 
   -- an add of a valid history names who was named before nowhere in its past, and is its inviter's
-  pub add_suits : {h : History} → Good h → {a : Message} {y : Id} → In a h → a.kind ≡ Add y → (Named (past h a.predecessors) y → ⊥) × (G.inviter y ≡ a.sender)
+  pub add_suits : {h : History} → Good h → {a : Message} {y : Id} → In a h → a.kind ≡ Add y → (Named (past h a.predecessors) y → ⊥) × (G.inviter y ≡ Some a.sender)
   add_suits {h} g {a} {y} i e = elim (each-valid G.rule G.inviter h g.history g.valid i) [
     | inl o ↦ absurd (let f : Add y ≡ Create o.members = sym e ∙ o.creates in cc)
     | inr v ↦ let s = subst (λ k. MeetsKind G.rule G.inviter (past h a.predecessors) a.sender k) e v.suits in (s.0, s.1)
@@ -221,7 +221,7 @@ module _ (G : Setting) where
   two_adds w l x cl g {a} {b} {y} i j d e =
       let m : MadeIn w a = cl.all a i in
       let n : MadeIn w b = cl.all b j in
-      let s : b.sender ≡ a.sender = sym (add_suits g j e).1 ∙ (add_suits g i d).1 in
+      let s : b.sender ≡ a.sender = some_same (sym (add_suits g j e).1 ∙ (add_suits g i d).1) in
       let k : Moment w a.sender (Made n.packet n.given) n.before = subst (λ z. Moment w z (Made n.packet n.given) n.before) s n.moment in
       elim (chain m.moment k l) [
         | one r ↦ sym m.is ∙ r ∙ n.is

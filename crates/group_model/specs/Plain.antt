@@ -1,5 +1,5 @@
 -- The plain program's values as messages of the model. docs/GROUP.md, "The plain program".
-use Rattle.std.specs.Prelude.{◌≡◌, ◌≢◌, ℕ, ◌+◌, Bool, true, cond, ◌⊎◌, List, [], ◌∷◌, map, replicate, bytes_eq}
+use Rattle.std.specs.Prelude.{◌≡◌, ◌≢◌, ℕ, ◌+◌, Bool, true, cond, ◌⊎◌, List, [], ◌∷◌, map, Option, Some, None, bytes_eq}
 use Rattle.std.specs.Ordering.{nat_cmp, is_lt}
 use Rattle.std.specs.Cmp.Lexicographic.{slice_cmp}
 use Rattle.group_model.specs.Sets.{Id, In}
@@ -75,10 +75,14 @@ abbrev pub SuitsAck : History → Id → (took : Bool) → Message → Type 0
 SuitsAck p s took o =
     (IsSeeded o.kind × (took ≡ true → InView remove_wins p o s × (s ≢ o.sender))) ⊎ (o.kind ≡ Add s)
 
--- what the cards say of the inviter of an id: 32 zero bytes where no card is the id's
-abbrev pub inviter_in : List Invitation → Id → Id
-inviter_in [] y = replicate 32 0
-inviter_in (card ∷ cards) y = cond (bytes_eq card.id y) card.inviter (inviter_in cards y)
+-- the inviter that the card names, where its key is a public key
+abbrev pub inviter_named : Invitation → Option Id
+inviter_named card = cond card.has_key (Some card.inviter) None
+
+-- what the cards say of the inviter of an id: nobody where no card is the id's
+abbrev pub inviter_in : List Invitation → Id → Option Id
+inviter_in [] y = None
+inviter_in (card ∷ cards) y = cond (bytes_eq card.id y) (inviter_named card) (inviter_in cards y)
 
 -- the place of the first id that does not come before i
 abbrev pub place : List Id → Id → ℕ

@@ -1,6 +1,7 @@
 -- When a message is valid: seven rules over its past, each by its own name.
 -- docs/GROUP.md, "Validity". The rules are this project's own.
-use Rattle.std.specs.Prelude.{◌≡◌, ◌≢◌, ℕ, ◌+◌, ◌<◌, ◌≤◌, Bool, true, false, cond, ◌⊎◌, List, [], ◌∷◌, length, bytes_eq}
+use Rattle.std.specs.Prelude.{◌≡◌, ◌≢◌, ℕ, ◌+◌, ◌<◌, ◌≤◌, Bool, true, false, cond, ◌⊎◌, List, [], ◌∷◌, length}
+use Rattle.std.specs.Prelude.{Option, Some, IsSome, bytes_eq}
 use Rattle.group_model.specs.Sets.{Id, In}
 use Rattle.group_model.specs.Messages.{Kind, Create, Update, Remove, Add, Ack, AddAck, Text, Message, History, past}
 use Rattle.group_model.specs.Messages.{AreHeads}
@@ -70,12 +71,13 @@ MayAck rule p s i took = (o : Message) → In o p → o.id ≡ i
 abbrev pub MayAddAck : History → Id → (i : Id) → Type 0
 MayAddAck p s i = (o : Message) → In o p → o.id ≡ i → (y : Id) × (o.kind ≡ Add y) × (y ≢ s)
 
--- Fourth rule, conditions of the kind, as far as header, cards and past tell: `inviter` is what a card says
-abbrev pub MeetsKind : (rule : History → List Id) → (inviter : Id → Id) → History → Id → Kind → Type 0
+-- Fourth rule, conditions of the kind, as far as header, cards and past tell. `inviter` is what the card of an id says:
+-- the inviter that it names, where its key is a public key. By a card whose key is none nobody may take the id in.
+abbrev pub MeetsKind : (rule : History → List Id) → (inviter : Id → Option Id) → History → Id → Kind → Type 0
 MeetsKind rule inviter p s (Create members) = ⊥
 MeetsKind rule inviter p s Update = Unit {0}
 MeetsKind rule inviter p s (Remove y) = In y (rule p) × (y ≢ s)
-MeetsKind rule inviter p s (Add y) = (Named p y → ⊥) × (inviter y ≡ s) × (length (ids_named p) < 32)
+MeetsKind rule inviter p s (Add y) = (Named p y → ⊥) × (inviter y ≡ Some s) × (length (ids_named p) < 32)
 MeetsKind rule inviter p s (Ack i took) = MayAck rule p s i took
 MeetsKind rule inviter p s (AddAck i) = MayAddAck p s i
 MeetsKind rule inviter p s Text = HasStepped p s
@@ -126,17 +128,21 @@ pub record IsWithinLimits (rule : History → List Id) (x : Id) (h : History) (m
   pub answer : NeedsAnswer rule x h m → length (m ∷ h) + 1 ≤ 4096
   pub ids : length (ids_named (m ∷ h)) ≤ 32
 
+-- the card of y lets s create a group with it: its key is a public key, and the inviter of another is s
+abbrev pub IsInvited : (inviter : Id → Option Id) → (s y : Id) → Type 0
+IsInvited inviter s y = IsSome (inviter y) × (y ≢ s → inviter y ≡ Some s)
+
 -- the message opens a history: the fourth rule for a create, over the empty history
-pub record Opens (inviter : Id → Id) (m : Message) : Type 0 where
+pub record Opens (inviter : Id → Option Id) (m : Message) : Type 0 where
   pub members : List Id
   pub creates : m.kind ≡ Create members
   pub first : m.predecessors ≡ []
   pub number : m.seq ≡ 1
   pub among : In m.sender members
-  pub invited : (y : Id) → In y members → y ≢ m.sender → inviter y ≡ m.sender
+  pub invited : (y : Id) → In y members → IsInvited inviter m.sender y
 
 -- the message goes on from its past, by the first to the sixth rule
-pub record GoesOn (rule : History → List Id) (inviter : Id → Id) (p : History) (m : Message) : Type 0 where
+pub record GoesOn (rule : History → List Id) (inviter : Id → Option Id) (p : History) (m : Message) : Type 0 where
   pub named : IsNamedSender p m
   pub member : IsCurrentMember rule p m
   pub next : IsNextInSequence p m
@@ -145,7 +151,7 @@ pub record GoesOn (rule : History → List Id) (inviter : Id → Id) (p : Histor
   pub heads : FollowsHeads p m
 
 -- the message is valid over its past
-abbrev pub IsValid : (rule : History → List Id) → (inviter : Id → Id) → History → Message → Type 0
+abbrev pub IsValid : (rule : History → List Id) → (inviter : Id → Option Id) → History → Message → Type 0
 IsValid rule inviter p m = Opens inviter m ⊎ GoesOn rule inviter p m
 
 -- no message of the history has the sender and the sequence number of the message
@@ -158,12 +164,12 @@ AreUnforked [] = Unit {0}
 AreUnforked (m ∷ older) = IsUnforked older m × AreUnforked older
 
 -- the message may be the next of the history
-abbrev pub MayFollow : (rule : History → List Id) → (inviter : Id → Id) → History → Message → Type 0
+abbrev pub MayFollow : (rule : History → List Id) → (inviter : Id → Option Id) → History → Message → Type 0
 MayFollow rule inviter [] m = Opens inviter m
 MayFollow rule inviter (l ∷ older) m = GoesOn rule inviter (past (l ∷ older) m.predecessors) m
 
 -- each message of the history is valid over its past, and the first alone is a create
-abbrev pub AllValid : (rule : History → List Id) → (inviter : Id → Id) → History → Type 0
+abbrev pub AllValid : (rule : History → List Id) → (inviter : Id → Option Id) → History → Type 0
 AllValid rule inviter [] = Unit {0}
 AllValid rule inviter (m ∷ older) = MayFollow rule inviter older m × AllValid rule inviter older
 

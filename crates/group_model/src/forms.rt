@@ -79,17 +79,17 @@ pub fn pushes_go_to_the_head()
 /// In a valid history in which nothing is forked the messages of a sender are a chain: each has the older ones in its
 /// past. So an operation is answered by each member at most once, and each id is named once.
 pub fn senders_are_chains()
-    ensures older_in_past { (rule : History → List Id) (inviter : Id → Id) (h : History) (m a : Message)
+    ensures older_in_past { (rule : History → List Id) (inviter : Id → Option Id) (h : History) (m a : Message)
         → MayFollow rule inviter h m → AllValid rule inviter h → AreUnforked h → IsUnforked h m → In a h
         → a.sender ≡ m.sender
         → In a (past h m.predecessors) }
     ensures numbered_once { (h : History) (a b : Message) → AreUnforked h → In a h → In b h → a.sender ≡ b.sender
         → a.seq ≡ b.seq → a ≡ b }
-    ensures answered_once { (rule : History → List Id) (inviter : Id → Id) (h : History) (a b : Message) (i : Id)
+    ensures answered_once { (rule : History → List Id) (inviter : Id → Option Id) (h : History) (a b : Message) (i : Id)
         → IsHistory h → AllValid rule inviter h → AreUnforked h → In a h → In b h → a.sender ≡ b.sender
         → Answers a.kind i
         → Answers b.kind i → a ≡ b }
-    ensures named_once { (rule : History → List Id) (inviter : Id → Id) (h : History) → IsHistory h
+    ensures named_once { (rule : History → List Id) (inviter : Id → Option Id) (h : History) → IsHistory h
         → AllValid rule inviter h → AreUnforked h → NamedOnce h }
 {}
 

@@ -223,13 +223,18 @@ fn all_go_on(
     Ok(true)
 }
 
+fn card_of(owner: u8, inviter: u8, has_key: bool) -> Invitation {
+    Invitation {
+        id: id(owner),
+        inviter: id(inviter),
+        has_key,
+    }
+}
+
 fn cards_of(alloc: Global, pairs: &[(u8, u8)]) -> Result<Vec<Invitation>, AllocError> {
     let mut all = Vec::new(alloc);
     for (owner, inviter) in pairs {
-        all.push(Invitation {
-            id: id(*owner),
-            inviter: id(*inviter),
-        })?;
+        all.push(card_of(*owner, *inviter, true))?;
     }
     Ok(all)
 }
@@ -249,9 +254,11 @@ fn history(alloc: Global) -> Result<Vec<PlainMessage>, AllocError> {
     Ok(h)
 }
 
-// 1 invited 2 and 3, 2 invited 4 and 6, and 9 invited 5.
+// 1 invited 2 and 3, 2 invited 4, 6 and 7, and 9 invited 5. The card of 7 has no public key.
 fn cards(alloc: Global) -> Result<Vec<Invitation>, AllocError> {
-    cards_of(alloc, &[(1, 0), (2, 1), (3, 1), (4, 2), (5, 9), (6, 2)])
+    let mut all = cards_of(alloc, &[(1, 0), (2, 1), (3, 1), (4, 2), (5, 9), (6, 2)])?;
+    all.push(card_of(7, 2, false))?;
+    Ok(all)
 }
 
 #[test]
@@ -362,6 +369,8 @@ fn heads_and_kinds(rt: HostRuntime) -> Result<(), Fail> {
         (1, PlainKind::Remove(id(1)), false),
         (1, PlainKind::Remove(id(5)), false),
         (2, PlainKind::Add(id(6)), true),
+        (2, PlainKind::Add(id(7)), false),
+        (2, PlainKind::Add(id(8)), false),
         (1, PlainKind::Add(id(6)), false),
         (2, PlainKind::Add(id(5)), false),
         (2, PlainKind::Add(id(4)), false),
@@ -424,23 +433,22 @@ fn parts(rt: HostRuntime) -> Result<(), Fail> {
 fn openings_and_limits(rt: HostRuntime) -> Result<(), Fail> {
     let alloc = rt.alloc();
     let known = cards(alloc)?;
-    // (the sender, its number, the predecessors, whether the create of {1, 2, 3} opens a history)
+    // (the sender, its number, the predecessors, the members, whether their create opens a history)
     let table = [
-        (1, 1, [].as_slice(), true),
-        (1, 1, [9].as_slice(), false),
-        (2, 1, [].as_slice(), false),
-        (4, 1, [].as_slice(), false),
-        (1, 2, [].as_slice(), false),
+        (1, 1, [].as_slice(), [1, 2, 3].as_slice(), true),
+        (1, 1, [9].as_slice(), [1, 2, 3].as_slice(), false),
+        (2, 1, [].as_slice(), [1, 2, 3].as_slice(), false),
+        (4, 1, [].as_slice(), [1, 2, 3].as_slice(), false),
+        (1, 2, [].as_slice(), [1, 2, 3].as_slice(), false),
+        (2, 1, [].as_slice(), [2, 4, 6].as_slice(), true),
+        (2, 1, [].as_slice(), [2, 4, 7].as_slice(), false),
+        (6, 1, [].as_slice(), [6].as_slice(), true),
+        (7, 1, [].as_slice(), [7].as_slice(), false),
+        (8, 1, [].as_slice(), [8].as_slice(), false),
     ];
-    for (sender, seq, predecessors, expected) in table {
-        let m = message(
-            alloc,
-            10,
-            sender,
-            seq,
-            create_of(alloc, &[1, 2, 3])?,
-            predecessors,
-        )?;
+    for (sender, seq, predecessors, members, expected) in table {
+        let kind = create_of(alloc, members)?;
+        let m = message(alloc, 10, sender, seq, kind, predecessors)?;
         assert!(rt; opens_it(known.as_slice(), &m) == expected);
     }
     let update = message(alloc, 10, 1, 1, PlainKind::Update, &[])?;

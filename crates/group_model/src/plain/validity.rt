@@ -1,14 +1,14 @@
 //! The seven rules of validity.
 
-ghost use Rattle.std.specs.Prelude.{◌≡◌, ◌≢◌, ◌^◌, ◌<◌, ◌↔◌, IsTrue, IfOk, length};
+ghost use Rattle.std.specs.Prelude.{◌≡◌, ◌≢◌, ◌^◌, ◌<◌, ◌↔◌, IsTrue, IfOk, Some, length};
 ghost use Rattle.group_model.specs.Sets.{Id, In};
 ghost use Rattle.group_model.specs.Messages.{Add, Message, IsHistory};
 ghost use Rattle.group_model.specs.Membership.{Named, ids_named, remove_wins};
 ghost use Rattle.group_model.specs.Validity.{IsOperation, Answers, StepsRatchet, IsNextInSequence, IsUnanswered};
 ghost use Rattle.group_model.specs.Validity.{AnswersOne, AnswersNone, IsInTurn, HasStepped, MayAck, MayAddAck};
-ghost use Rattle.group_model.specs.Validity.{MeetsKind, FollowsHeads, Opens, NeedsAnswer, IsWithinLimits};
+ghost use Rattle.group_model.specs.Validity.{MeetsKind, FollowsHeads, IsInvited, Opens, NeedsAnswer, IsWithinLimits};
 ghost use Rattle.group_model.specs.Plain.{kind_of, message_of, history_of, HasAnswered, BringsInAfter};
-ghost use Rattle.group_model.specs.Plain.{IsOlderThanMembership, SuitsAck, inviter_in};
+ghost use Rattle.group_model.specs.Plain.{IsOlderThanMembership, SuitsAck, inviter_in, inviter_named as named_by_card};
 
 use crate::plain::members::*;
 use crate::plain::messages::*;
@@ -222,23 +222,35 @@ pub fn is_in_turn(
     }
 }
 
-/// What a card says of its owner: who may invite it.
+/// What a card says of its owner: who may invite it, and whether its key is a public key.
 #[derive(Drop)]
 pub struct Invitation {
     pub id: [u8; 32],
     pub inviter: [u8; 32],
+    pub has_key: bool,
 }
 
-/// The inviter of the id by the first of the cards that is the id's; 32 zero bytes where there is none.
-pub fn inviter_of(cards: &[Invitation], id: &[u8; 32]) -> [u8; 32]
+/// The inviter that the card names; `None` where its key is no public key.
+fn inviter_named(card: &Invitation) -> Option<[u8; 32]>
+    ensures { result ≡ named_by_card card.now }
+{
+    if card.has_key {
+        return Some(card.inviter);
+    }
+    None
+}
+
+/// The inviter of the id by the first of the cards that is the id's; `None` where there is no card or its key is no
+/// public key.
+pub fn inviter_of(cards: &[Invitation], id: &[u8; 32]) -> Option<[u8; 32]>
     ensures { result ≡ inviter_in cards.now id.now }
 {
     for card in cards {
         if card.id == *id {
-            return card.inviter;
+            return inviter_named(card);
         }
     }
-    [0; 32]
+    None
 }
 
 /// The sixth rule of validity: the predecessors are the heads of the past, in ascending order.
@@ -372,6 +384,16 @@ pub fn may_remove(past: &[PlainMessage], sender: &[u8; 32], target: &[u8; 32]) -
     is_member(past, target) && *target != *sender
 }
 
+/// Whether the card of the id has a public key and names the inviter.
+fn names_inviter(cards: &[Invitation], id: &[u8; 32], inviter: &[u8; 32]) -> bool
+    ensures { IsTrue result ↔ (inviter_in cards.now id.now ≡ Some inviter.now) }
+{
+    match inviter_of(cards, id) {
+        Some(named) => named == *inviter,
+        None => false,
+    }
+}
+
 /// Whether the sender may add the target: the fourth rule of validity for an add.
 pub fn may_add(
     alloc: Global,
@@ -381,14 +403,14 @@ pub fn may_add(
     target: &[u8; 32],
 ) -> Result<bool, AllocError>
     ensures { IfOk result (λ b. IsTrue b
-        ↔ ((Named (history_of past.now) target.now → ⊥) × (inviter_in cards.now target.now ≡ sender.now)
+        ↔ ((Named (history_of past.now) target.now → ⊥) × (inviter_in cards.now target.now ≡ Some sender.now)
         × (length (ids_named (history_of past.now)) < 32))) }
 {
     if is_named(past, target) {
         return Ok(false);
     }
     let ids = named_ids(alloc, past)?;
-    Ok(inviter_of(cards, target) == *sender && ids.len() < 32)
+    Ok(names_inviter(cards, target, sender) && ids.len() < 32)
 }
 
 /// The fourth rule of validity, as far as header, cards and past tell: the conditions of the kind. A create is judged
@@ -414,20 +436,20 @@ pub fn meets_kind(
     }
 }
 
-/// Whether the id is the sender's, or the sender its inviter.
+/// Whether the card of the id has a public key, and the sender as its inviter where the id is another's.
 fn is_invited(cards: &[Invitation], id: &[u8; 32], sender: &[u8; 32]) -> bool
-    ensures { IsTrue result ↔ (id.now ≢ sender.now → inviter_in cards.now id.now ≡ sender.now) }
+    ensures { IsTrue result ↔ IsInvited (inviter_in cards.now) sender.now id.now }
 {
     if same(id, sender) {
-        return true;
+        return inviter_of(cards, id).is_some();
     }
-    inviter_of(cards, id) == *sender
+    names_inviter(cards, id, sender)
 }
 
-/// Whether the card of each of the ids but the sender's has the sender as its inviter.
+/// Whether the card of each of the ids has a public key, and the sender as its inviter where the id is another's.
 fn are_invited(cards: &[Invitation], ids: &[[u8; 32]], sender: &[u8; 32]) -> bool
     ensures { IsTrue result
-        ↔ ((y : Id) → In y ids.now → y ≢ sender.now → inviter_in cards.now y ≡ sender.now) }
+        ↔ ((y : Id) → In y ids.now → IsInvited (inviter_in cards.now) sender.now y) }
 {
     for id in ids {
         if !is_invited(cards, id, sender) {

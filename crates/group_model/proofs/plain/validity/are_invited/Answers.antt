@@ -1,5 +1,6 @@
-use Rattle.std.proofs.Common.{◌≡◌, ◌≢◌, refl}
+use Rattle.std.proofs.Common.{refl}
 use Rattle.group_model.specs.Sets.{Id}
+use Rattle.group_model.specs.Validity.{IsInvited}
 use Rattle.group_model.specs.Plain.{inviter_in}
 use Rattle.group_model.proofs.Rows.{all-more_ids, id-in, ids-end}
 use Rattle.group_model.proofs.plain.validity.are_invited.Goals as goal
@@ -12,7 +13,7 @@ returns-then-not-is_invited c = (
 )
 
 pub loop-id-preserved : goal.loop-id-preserved
-loop-id-preserved c = all-more_ids (λ (y : Id). y ≢ c.args.sender.now → inviter_in c.args.cards.now y ≡ c.args.sender.now)
+loop-id-preserved c = all-more_ids (λ (y : Id). IsInvited (inviter_in c.args.cards.now) c.args.sender.now y)
     c.args.ids.now c.loop-id.id-index _ c.loop-id-test.true c.loop-id.invariant
     (c.is_invited.ensures.0 c.if-not-is_invited.false)
 
