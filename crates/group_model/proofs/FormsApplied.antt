@@ -14,7 +14,7 @@ use Rattle.group_model.proofs.Pasts.{past-direct, same-message}
 use Rattle.group_model.proofs.PastsInside.{past-of_inner, view-of_inner, past-by_predecessor, head-by_predecessors}
 use Rattle.group_model.proofs.RemoveWins.{remove_wins-rule, ids_named-Named, ids_named-distinct}
 use Rattle.group_model.proofs.Places.{place-in, in-place, place-one, place-distinct, place-stays, crowd-one}
-use Rattle.group_model.proofs.Numbers.{past-marked, number-same, number-one, pushed}
+use Rattle.group_model.proofs.Numbers.{past-marked, marks-one, number-same, number-one, pushed}
 use Rattle.group_model.proofs.MarksMade.{marks_of, past-marks}
 use Rattle.group_model.proofs.Addressees.{addressees_move}
 use Rattle.group_model.proofs.Ascending.{heads-same, addressees-same}
@@ -50,6 +50,8 @@ pub forms_of_ada : FormsOfAda
 forms_of_ada = record {
   marks = marks_of history_of_ada (past history_of_ada handed.predecessors);
   marks_past = past-marks history_of_ada whole handed.predecessors;
+  one_set = λ others i k. marks-one history_of_ada handed.predecessors others (marks_of history_of_ada (past history_of_ada handed.predecessors)) k
+      (past-marks history_of_ada whole handed.predecessors) i;
   marked_past = past-marked history_of_ada handed.predecessors (marks_of history_of_ada (past history_of_ada handed.predecessors)) whole
       (past-marks history_of_ada whole handed.predecessors);
   number = inr (inr (inr (inr (inr (inl (refl, refl))))));

@@ -1,5 +1,5 @@
 -- Each past has marks.
-use Rattle.std.proofs.Common.{◌≡◌, ℕ, Bool, false, cond, inl, inr, List, [], ◌∷◌, nat_eq, length, refl, sym, ◌∙◌, ap, subst, arith}
+use Rattle.std.proofs.Common.{◌≡◌, ℕ, ◌<◌, Bool, true, false, cond, inl, inr, List, [], ◌∷◌, nat_eq, length, refl, sym, ◌∙◌, ap, subst, arith}
 use Rattle.std.specs.Str.{bytes_eq}
 use Rattle.group_model.specs.Sets.{Id, In}
 use Rattle.group_model.specs.Messages.{Message, History, past, IsHistory}
@@ -30,6 +30,13 @@ marks-at (n ∷ older) p i m (inr r) = elim (test (nat_eq i (length older))) [
   | no_is d ↦ ap (λ b. cond b (id_in p n.id) (marks_of older p i)) d ∙ marks-at older p i m r
 ]
 
+marks-within : (h p : History) (i : ℕ) → marks_of h p i ≡ true → i < length h
+marks-within [] p i e = cc
+marks-within (m ∷ older) p i e = elim (test (nat_eq i (length older))) [
+  | yes_is d ↦ (let f : i ≡ length older = (says-equal i (length older)).holds d in omega (arith, f))
+  | no_is d ↦ (let l = marks-within older p i (rw d at e) in omega (arith, l))
+]
+
 pub past-marks : (h : History) → IsHistory h → (ids : List Id) → MarksPast h ids (marks_of h (past h ids))
 past-marks h g ids = record {
   each = λ i m r. (
@@ -39,4 +46,5 @@ past-marks h g ids = record {
         subst (λ z. In z (past h ids)) same found.1,
     λ j. marks-at h (past h ids) i m r ∙ (says-any (λ (a : Message). says-same a.id m.id) (past h ids)).told (m, j, refl),
   );
+  within = marks-within h (past h ids);
 }

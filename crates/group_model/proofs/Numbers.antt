@@ -1,11 +1,12 @@
 -- Messages of a history by their numbers, and a past as its marked messages.
-use Rattle.std.proofs.Common.{◌≡◌, ℕ, ◌<◌, Bool, true, false, inl, inr, List, [], ◌∷◌, ◌++◌, length, refl, sym, ◌∙◌, ap, arith}
+use Rattle.std.proofs.Common.{◌≡◌, ◌≢◌, ℕ, ◌<◌, Bool, true, false, inl, inr, List, [], ◌∷◌, ◌++◌, nat_eq, length, refl, sym, ◌∙◌, ap, arith}
 use Rattle.std.specs.Prelude.{reverse}
 use Rattle.std.proofs.lemmas.List.{reverse-append}
 use Rattle.group_model.specs.Sets.{Id, In, here, there, has}
 use Rattle.group_model.specs.Messages.{Message, History, past, Stands, IsHistory}
 use Rattle.group_model.specs.Marks.{HasNumber, marked, MarksPast}
 use Rattle.group_model.proofs.ListFacts.{yes_is, no_is, test, has-In, In-cases, In-head}
+use Rattle.group_model.proofs.Verdicts.{says-equal}
 use Rattle.group_model.proofs.Pasts.{past-taken, past-left, past-none, past-within, past-direct}
 
 pub number-in : (h : History) (i : ℕ) (m : Message) → HasNumber h i m → In m h
@@ -77,6 +78,30 @@ past-marked_both (m ∷ older) g w marks f b = elim (test (has w m.id)) [
 
 pub past-marked : (h : History) (w : List Id) (marks : ℕ → Bool) → IsHistory h → MarksPast h w marks → marked marks h ≡ past h w
 past-marked h w marks g k = past-marked_both h g w marks (λ i m r. (k.each i m r).0) (λ i m r. (k.each i m r).1)
+
+-- each number below the length is a message's
+number-at : (h : History) (i : ℕ) → i < length h → (m : Message) × HasNumber h i m
+number-at [] i l = absurd (omega arith)
+number-at (n ∷ older) i l = elim (test (nat_eq i (length older))) [
+  | yes_is e ↦ (n, inl ((says-equal i (length older)).holds e, refl))
+  | no_is e ↦ let r = number-at older i (
+      let d : i ≢ length older = λ f. (let t = (says-equal i (length older)).told f in cc) in omega (arith, l, d)) in (r.0, inr r.1)
+]
+
+marks-forth : (h : History) (ids : List Id) (a b : ℕ → Bool) → MarksPast h ids a → MarksPast h ids b → (i : ℕ) → a i ≡ true → b i ≡ true
+marks-forth h ids a b k l i e =
+    let r = number-at h i (k.within i e) in
+    (l.each i r.0 r.1).1 ((k.each i r.0 r.1).0 e)
+
+-- the marks of a past are one set
+pub marks-one : (h : History) (ids : List Id) (a b : ℕ → Bool) → MarksPast h ids a → MarksPast h ids b → (i : ℕ) → a i ≡ b i
+marks-one h ids a b k l i = elim (test (a i)) [
+  | yes_is e ↦ e ∙ sym (marks-forth h ids a b k l i e)
+  | no_is e ↦ elim (test (b i)) [
+    | yes_is d ↦ absurd (let c : a i ≡ true = marks-forth h ids b a l k i d in cc)
+    | no_is d ↦ e ∙ sym d
+  ]
+]
 
 -- one message more behind the oldest-first list
 pub pushed : (list : List Message) (m : Message) → reverse (list ++ m ∷ []) ≡ m ∷ reverse list

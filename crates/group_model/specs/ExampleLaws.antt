@@ -32,6 +32,7 @@ draft = record creation { id = []; body = [] }
 pub record FormsOfAda : Type 0 where
   pub marks : ℕ → Bool
   pub marks_past : MarksPast history_of_ada handed.predecessors marks
+  pub one_set : (others : ℕ → Bool) (i : ℕ) → MarksPast history_of_ada handed.predecessors others → others i ≡ marks i
   pub marked_past : marked marks history_of_ada ≡ past history_of_ada handed.predecessors
   pub number : HasNumber history_of_ada 4 handed
   pub one_number : (i : ℕ) → HasNumber history_of_ada i handed → i ≡ 4

@@ -14,9 +14,10 @@ abbrev pub marked : (marks : ℕ → Bool) → History → History
 marked marks [] = []
 marked marks (m ∷ older) = cond (marks (length older)) (m ∷ marked marks older) (marked marks older)
 
--- of the history's numbers those of the messages that the ids lead back to are marked
+-- the marks are the numbers of those messages of the history that the ids lead back to
 pub record MarksPast (h : History) (ids : List Id) (marks : ℕ → Bool) : Type 0 where
   pub each : (i : ℕ) (m : Message) → HasNumber h i m → (marks i ≡ true) ↔ In m (past h ids)
+  pub within : (i : ℕ) → marks i ≡ true → i < length h
 
 -- the id stands at the place in the list
 abbrev pub IsPlace : (ids : List Id) → ℕ → Id → Type 0

@@ -15,12 +15,14 @@ ghost use Rattle.group_model.specs.Knowledge.{motion_known, seed_known, forwarde
 ghost use Rattle.group_model.specs.Knowledge.{answer_known, learnt_at, chain_known};
 ghost use Rattle.group_model.specs.Marks.{HasNumber, marked, MarksPast, IsPlace, IsCrowd};
 
-/// A past is the marked messages of its history where exactly its messages are marked, and each past has such marks.
-/// Each message has one number, and each number is one message's.
+/// A past is the marked messages of its history where exactly its messages are marked, and each past has such marks,
+/// which are one set. Each message has one number, and each number is one message's.
 pub fn past_by_marks()
     ensures there_are { (h : History) (ids : List Id) → IsHistory h → (marks : ℕ → Bool) × MarksPast h ids marks }
     ensures past { (h : History) (ids : List Id) (marks : ℕ → Bool) → IsHistory h → MarksPast h ids marks
         → marked marks h ≡ past h ids }
+    ensures one_set { (h : History) (ids : List Id) (a b : ℕ → Bool) (i : ℕ) → MarksPast h ids a → MarksPast h ids b
+        → a i ≡ b i }
     ensures numbered { (h : History) (m : Message) → In m h → (i : ℕ) × HasNumber h i m }
     ensures one_number { (h : History) (m : Message) (i j : ℕ) → IsHistory h → HasNumber h i m → HasNumber h j m
         → i ≡ j }
