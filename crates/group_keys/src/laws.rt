@@ -11,7 +11,7 @@ use kem_trait::Kem;
 
 /// The primitives of every key encapsulation are lawful: what is sealed opens, a pair that a seed gives is tested, the
 /// owner of a tested pair finds what was encapsulated to its public key, and what is written of a content is read back.
-/// To a tested pair's public key every seed encapsulates.
+/// A tested pair's public key is a public key, and to each public key every seed encapsulates.
 pub fn primitives_are_lawful<K: Kem>()
     ensures sealing { (key text : Bytes)
         → (primitives_of ⟦<K as Kem>⟧).unseal key ((primitives_of ⟦<K as Kem>⟧).seal key text) ≡ Some text }
@@ -23,7 +23,9 @@ pub fn primitives_are_lawful<K: Kem>()
         → (primitives_of ⟦<K as Kem>⟧).decapsulate secret e.ciphertext ≡ Some e.key }
     ensures contents { (content : Content) (bytes : Bytes) → (primitives_of ⟦<K as Kem>⟧).write content ≡ Some bytes
         → (primitives_of ⟦<K as Kem>⟧).read bytes ≡ Some content }
-    ensures encapsulates { (secret public seed : Bytes) → (primitives_of ⟦<K as Kem>⟧).is_pair secret public ≡ true
+    ensures public_keys { (secret public : Bytes) → (primitives_of ⟦<K as Kem>⟧).is_pair secret public ≡ true
+        → ⟦<K as Kem>⟧.is_public public ≡ true }
+    ensures encapsulates { (public seed : Bytes) → ⟦<K as Kem>⟧.is_public public ≡ true
         → IsSome ((primitives_of ⟦<K as Kem>⟧).encapsulate public seed) }
 {}
 

@@ -1,8 +1,8 @@
 -- What a valid history gives.
-use Rattle.std.proofs.Common.{◌≡◌, inl, inr, List, [], ◌∷◌, Option, refl, sym, ◌∙◌, subst, ap}
+use Rattle.std.proofs.Common.{◌≡◌, ◌⊎◌, inl, inr, List, [], ◌∷◌, Option, refl, sym, ◌∙◌, subst, ap}
 use Rattle.group_model.specs.Sets.{Id, In, here, there, has}
 use Rattle.group_model.specs.Messages.{Create, Message, History, past, Stands, IsHistory, with_past}
-use Rattle.group_model.specs.Validity.{MeetsKind, IsValid, MayFollow, AllValid}
+use Rattle.group_model.specs.Validity.{MeetsKind, Opens, GoesOn, MayFollow, AllValid}
 use Rattle.group_model.proofs.ListFacts.{yes_is, no_is, test, has-In, In-cases}
 use Rattle.group_model.proofs.Pasts.{past-within, past-trans, past-left, deps-stand}
 
@@ -19,6 +19,10 @@ past-self m h g = past-over m h g.1 m.predecessors g.0
 
 pub past-older : (m : Message) (h : History) → IsHistory (m ∷ h) → {a : Message} → In a h → past (m ∷ h) a.predecessors ≡ past h a.predecessors
 past-older m h g {a} i = past-over m h g.1 a.predecessors (deps-stand h g.2 i)
+
+-- the message opens a history or goes on from the set
+abbrev pub IsValid : (rule : History → List Id) → (inviter : Id → Option Id) → History → Message → Type 0
+IsValid rule inviter p m = Opens inviter m ⊎ GoesOn rule inviter p m
 
 pub valid-from : (rule : History → List Id) (inviter : Id → Option Id) (h : History) (m : Message) → MayFollow rule inviter h m → IsValid rule inviter (past h m.predecessors) m
 valid-from rule inviter [] m v = inl v

@@ -4,9 +4,10 @@ use Rattle.std.proofs.lemmas.Slice.Eq.{bytes_eq-Decides}
 use Rattle.group_model.specs.Sets.{Id, In, here, there, has, Within}
 use Rattle.group_model.specs.Messages.{Kind, Create, Update, Remove, Add, Ack, AddAck, Text, Message, History, past, IsHistory, with_past}
 use Rattle.group_model.specs.Membership.{Names, IsSeeded, Named, NamedOnce, IsMembershipRule, InView}
-use Rattle.group_model.specs.Validity.{IsOperation, Answers, IsUnanswered, AnswersOne, IsInTurn, MeetsKind, IsValid}
+use Rattle.group_model.specs.Validity.{IsOperation, Answers, IsUnanswered, AnswersOne, IsInTurn, MeetsKind}
 use Rattle.group_model.proofs.ListFacts.{yes_is, no_is, test, has-In, In-has, In-nothing, In-cases, In-head}
 use Rattle.group_model.proofs.Pasts.{with_past-history, past-within, past-trans, past-inside, past-of_nothing, same-message}
+use Rattle.group_model.proofs.Valids.{IsValid}
 
 pub same_or_not : (a b : Id) → (a ≡ b) ⊎ (a ≢ b)
 same_or_not a b = elim (test (bytes_eq a b)) [

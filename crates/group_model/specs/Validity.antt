@@ -150,10 +150,6 @@ pub record GoesOn (rule : History → List Id) (inviter : Id → Option Id) (p :
   pub in_turn : IsInTurn p m.sender m.kind
   pub heads : FollowsHeads p m
 
--- the message is valid over its past
-abbrev pub IsValid : (rule : History → List Id) → (inviter : Id → Option Id) → History → Message → Type 0
-IsValid rule inviter p m = Opens inviter m ⊎ GoesOn rule inviter p m
-
 -- no message of the history has the sender and the sequence number of the message
 abbrev pub IsUnforked : History → Message → Type 0
 IsUnforked h m = (a : Message) → In a h → a.sender ≡ m.sender → a.seq ≢ m.seq
@@ -172,10 +168,6 @@ MayFollow rule inviter (l ∷ older) m = GoesOn rule inviter (past (l ∷ older)
 abbrev pub AllValid : (rule : History → List Id) → (inviter : Id → Option Id) → History → Type 0
 AllValid rule inviter [] = Unit {0}
 AllValid rule inviter (m ∷ older) = MayFollow rule inviter older m × AllValid rule inviter older
-
--- the message is of the set and group of each message of the history
-abbrev pub IsOfGroup : History → Message → Type 0
-IsOfGroup h m = (a : Message) → In a h → (a.set ≡ m.set) × (a.group ≡ m.group)
 
 -- Fourth rule, as the body tells: the parts go to exactly the addressees
 abbrev pub SendsParts : (rule : History → List Id) → History → Message → List Id → Type 0

@@ -47,14 +47,16 @@ module _ {K P : Type 0} (kem : Ghosts K P) where
       subst (λ (z : Encapsulation). kem.decapsulated secret z.ciphertext ≡ Some z.key) m.2
       (kem.decapsulates secret (words_of_seed seed) m.0 t.0 given)
 
-  -- to a tested pair's public key every seed encapsulates
+  pub public-tested : (secret public : Bytes) → is_pair kem secret public ≡ true → kem.is_public public ≡ true
+  public-tested secret public h =
+      let t = tested-parts secret public h in ap kem.is_public t.1 ∙ kem.public_is_public secret t.0
+
+  -- to a public key every seed encapsulates
   some_mapped : {A B : Type 0} (f : A → B) (o : Option A) → IsSome o → IsSome (option_map f o)
   some_mapped f (Some a) h = refl
   some_mapped f None h = h
 
-  pub encapsulates : (secret public seed : Bytes) → is_pair kem secret public ≡ true → IsSome (encapsulation kem public seed)
+  pub encapsulates : (public seed : Bytes) → kem.is_public public ≡ true → IsSome (encapsulation kem public seed)
   unfolding encapsulation
-  encapsulates secret public seed h =
-      let t = tested-parts secret public h in
-      let is : kem.is_public public ≡ true = ap kem.is_public t.1 ∙ kem.public_is_public secret t.0 in
+  encapsulates public seed is =
       some_mapped as_encapsulation (kem.encapsulated public (words_of_seed seed)) (kem.encapsulates public (words_of_seed seed) is)
