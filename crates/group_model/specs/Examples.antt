@@ -1,14 +1,15 @@
 -- A history of three members, and what an example of a lawful world over it has to show: that the conditions of the
 -- theorems can be met, by members that learn secrets and read texts. docs/GROUP.md, "Lawful
 -- worlds that there are".
-use Rattle.std.specs.Prelude.{◌≡◌, ◌≢◌, ℕ, true, false, List, [], ◌∷◌, Some, codes}
+use Rattle.std.specs.Prelude.{◌≡◌, ◌≢◌, ℕ, true, false, List, [], ◌∷◌, Some, None, map, codes}
 use Rattle.group_model.specs.Sets.{Bytes, Id, In}
 use Rattle.group_model.specs.Messages.{Kind, Create, Update, Add, Ack, AddAck, Text, Message, History}
 use Rattle.group_model.specs.Membership.{remove_wins}
+use Rattle.group_model.specs.Validity.{SendsParts}
 use Rattle.group_model.specs.Settings.{Setting, card_of}
-use Rattle.group_model.specs.Packets.{Packet}
-use Rattle.group_model.specs.Logs.{Joined, hist}
-use Rattle.group_model.specs.Knowledge.{known, learnt_of, text_of}
+use Rattle.group_model.specs.Packets.{Addressed, Packet}
+use Rattle.group_model.specs.Logs.{Joined, Took, hist}
+use Rattle.group_model.specs.Knowledge.{payload, known, learnt_of, text_of}
 use Rattle.group_model.specs.Worlds.{Turns, log_of, Moment}
 use Rattle.group_model.specs.LawfulWorlds.{IsLawful}
 use Rattle.group_model.specs.Conduct.{AnswersAtOnce}
@@ -124,7 +125,7 @@ pub record ThreeMembers : Type 0 where
   pub sent : (k : MadeBy world question) → k.given.text ≡ codes "hello"
 
 -- A second history: ada created a group with bob and eve, who is none of the honest members. eve sends an ack, and an
--- update without a part for anybody. bob and ada answer it, and bob adds cyd, who joins by rows among which are eve's.
+-- update whose parts don't open. bob and ada answer it, and bob adds cyd, who joins by rows among which are eve's.
 abbrev pub eve : Id
 eve = 4 ∷ []
 
@@ -170,6 +171,16 @@ later_history_of_cyd =
     ratchet_of_ada ∷ answer_of_ada ∷ invitation_acked ∷ invitation ∷ answer_of_bob ∷ eves_update ∷ eves_ack
     ∷ opening_acked ∷ opening ∷ []
 
+-- x took eve's update. It has parts for exactly the addressees, and that for x doesn't open
+pub record UpdateTaken (G : Setting) (w : Turns) (x : Id) : Type 0 where
+  pub packet : Packet
+  pub before : Turns
+  pub moment : Moment w x (Took packet) before
+  pub is : packet.header ≡ eves_update
+  pub to_addressees : SendsParts G.rule (hist (log_of before x)) packet.header
+      (map (λ (a : Addressed). a.to) packet.parts)
+  pub unopened : payload G.primitives (card_of G x) x (log_of before x) packet ≡ None
+
 -- A lawful world with these histories. cyd joined by a welcome with eve's rows, and knows its own ratchet still. ada
 -- and bob are entitled to what bob made before he took anything of eve, and learnt one secret of it.
 pub record RowsOfAnOutsider : Type 0 where
@@ -182,6 +193,8 @@ pub record RowsOfAnOutsider : Type 0 where
   pub of_bob : hist (log_of world bob) ≡ later_history_of_bob
   pub of_cyd : hist (log_of world cyd) ≡ later_history_of_cyd
   pub outside : In eve setting.members → ⊥
+  pub ada_took : UpdateTaken setting world ada
+  pub bob_took : UpdateTaken setting world bob
   pub welcome : Packet
   pub before : Turns
   pub joined : Moment world cyd (Joined welcome) before

@@ -1,5 +1,5 @@
 -- Lawful logs: each entry is one that the log's owner may leave, whatever others send it. It asks nothing of other
--- members. docs/GROUP.md, "Lawful logs".
+-- members. Valid is here as far as header and cards tell. docs/GROUP.md, "Lawful logs".
 use Rattle.std.specs.Prelude.{◌≡◌, ◌≢◌, true, List, [], ◌∷◌, Some, None}
 use Rattle.group_model.specs.Sets.{Bytes, Id}
 use Rattle.group_model.specs.Messages.{Ack, Add, Text, IsHistory, AreHeads}

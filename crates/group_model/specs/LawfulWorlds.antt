@@ -15,7 +15,8 @@ pub record WasMade (w : Turns) (p : Packet) : Type 0 where
   pub before : Turns
   pub moment : Moment w p.header.sender (Made p given) before
 
--- Distinct hashes: distinct headers have distinct ids
+-- Distinct hashes: distinct headers have distinct ids. That distinct cards do too stands in the form of a setting,
+-- where what a card says is a function of its id.
 pub record AreHashesDistinct (w : Turns) : Type 0 where
   pub same : (x y : Id) (a b : Message) → In a (hist (log_of w x)) → In b (hist (log_of w y))
       → a.id ≡ b.id → a ≡ b

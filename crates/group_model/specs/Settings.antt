@@ -6,9 +6,9 @@ use Rattle.group_model.specs.Messages.{History}
 use Rattle.group_model.specs.Membership.{IsMembershipRule}
 use Rattle.group_model.specs.Primitives.{KeyPair, Primitives}
 
--- The primitives; the membership rule; what each identity's card says, which is the inviter that it names, where its key
--- is a public key, and that key; the members of the world, who are the honest ones, and the secret keys that belong to
--- their cards. To a card's key that is a public key every seed encapsulates.
+-- The primitives; the membership rule; what each identity's card says, which is the inviter that it names, where its
+-- key is a public key, and that key; the members of the world, who are the honest ones, and the secret keys that belong
+-- to their cards. To a card's key that is a public key every seed encapsulates.
 pub record Setting : Type 0 where
   pub primitives : Primitives
   pub rule : History → List Id

@@ -12,8 +12,8 @@ pub fn three_members()
 {}
 
 /// There is a lawful world in which a member joins by a welcome that hands on the rows of an outsider, who sent an
-/// update without parts. This member knows its own ratchet all the same, and what was made before the outsider's
-/// messages is agreed on.
+/// update whose parts don't open. This member knows its own ratchet all the same, and what was made before the
+/// outsider's messages is agreed on.
 pub fn rows_of_an_outsider()
     ensures { RowsOfAnOutsider }
 {}

@@ -74,8 +74,8 @@ pub fn authentic_texts()
 {}
 
 /// With every lawful log, and so in every lawful world, what a member makes that answers at once is valid over its
-/// past, by the first to the sixth rule: what its commands look at over its whole history is what the rules ask over
-/// the past.
+/// past, by the first to the sixth rule, as far as header and cards tell: what its commands look at over its whole
+/// history is what the rules ask over the past.
 pub fn made_messages_are_valid()
     ensures alone { MadeIsValid }
     ensures in_worlds { MadeIsValidInWorlds }

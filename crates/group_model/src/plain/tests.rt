@@ -573,9 +573,9 @@ fn rows_of_an_outsider(rt: HostRuntime) -> Result<(), Fail> {
     let h = all.as_slice();
     assert!(rt; opens_it(known.as_slice(), &h[8]) && all_go_on(alloc, known.as_slice(), h, 3)?);
     assert!(rt; heads_are(alloc, h, &[27, 28])?);
-    // The update had to have a part for each other member, which the outsider left out.
+    // The outsider's update has a part for each other member, whether these open or not.
     assert!(rt;
-        addressed_to(alloc, h, &h[5], &[1, 2])? && !parts_go_to(alloc, &h[6..], &h[5], &[])?
+        addressed_to(alloc, h, &h[5], &[1, 2])? && parts_go_to(alloc, &h[6..], &h[5], &[1, 2])?
     );
     Ok(())
 }
