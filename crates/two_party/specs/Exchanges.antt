@@ -21,8 +21,9 @@ module _ {K P : Type 0} (kem : Ghosts K P) where
     pub other_tested : is_pair kem d.other.secret d.other.public ≡ true
     pub bytes : option_map (part_bytes kem) (next_part (primitives_of kem) k d part.payload) ≡ Some part.bytes
 
-  -- What two sides with these secret keys on their cards come to: the states of the first and of the second, and the parts
-  -- that are under way to the second and to the first, oldest first. Each takes the other's parts in the order sent.
+  -- What two sides with these secret keys on their cards come to: the states of the first and of the second, and the
+  -- parts that are under way to the second and to the first, oldest first. Each takes the other's parts in the order
+  -- sent.
   pub data Exchange (a b : Bytes) : PairState → PairState → List UnderWay → List UnderWay → Type 0 where
     start : kem.is_secret a ≡ true → kem.is_secret b ≡ true
         → Exchange a b (at_start a (kem.public_in b)) (at_start b (kem.public_in a)) [] []

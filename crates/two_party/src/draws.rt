@@ -1,7 +1,7 @@
 //! What is drawn for parts.
 
-ghost use Rattle.std.specs.Prelude.{◌≡◌, ◌+◌, ◌<◌, ◌≤◌, ◌∷◌, [], ℕ, length, map, flat_map, All, Any, IsSome, IsErrOf, IfOk};
-ghost use Rattle.std.specs.Prelude.{Some, None, bytes_eq, codes};
+ghost use Rattle.std.specs.Prelude.{◌≡◌, ◌≤◌, ◌∷◌, length, map, flat_map, All, Any, IsSome, IsErrOf, IfOk, Some};
+ghost use Rattle.std.specs.Prelude.{None, bytes_eq, codes};
 ghost use Rattle.std.specs.Vec.Iter.{into_iter_items, into_iter_len};
 ghost use Rattle.kem_trait.specs.Words.{seed_words};
 ghost use Rattle.hkdf_seal.specs.Keys.{kdf};
@@ -189,9 +189,9 @@ fn rows_of<K: Kem>(
     Ok(rows)
 }
 
-/// Draws for the parts of one step, from its 32 random bytes, to each of the members: the sender's new pair from the words
-/// of the key that the random bytes give under "own" and the member's id, the member's new pair likewise under "other",
-/// and under "encap" the seed of the encapsulation. All pairs are made by one call.
+/// Draws for the parts of one step, from its 32 random bytes, to each of the members: the sender's new pair from the
+/// words of the key that the random bytes give under "own" and the member's id, the member's new pair likewise under
+/// "other", and under "encap" the seed of the encapsulation. All pairs are made by one call.
 ///
 /// `NoUsableKey` only where the words of some pair give no usable key; then no call with these random bytes and members
 /// draws. `Memory` where an allocation was refused.

@@ -11,8 +11,8 @@ ghost use Rattle.two_party.specs.Received.{payload_of, received};
 
 use kem_trait::Kem;
 
-/// However two sides send and take parts, each the other's in the order sent, the next part under way opens to the payload
-/// that was sent in it. So every part opens, however the two directions cross.
+/// However two sides send and take parts, each the other's in the order sent, the next part under way opens to the
+/// payload that was sent in it. So every part opens, however the two directions cross.
 pub fn parts_open<K: Kem>()
     ensures to_second { (a b : Bytes) (ka kb : PairState) (part : UnderWay) (to_second to_first : List UnderWay)
         → Exchange ⟦<K as Kem>⟧ a b ka kb (part ∷ to_second) to_first

@@ -23,8 +23,8 @@ struct BroughtPair<K: Kem> {
 }
 
 /// One side of a pair of members: which key the next part is sealed to, the own pairs that are not dropped, the pair
-/// that the last opened part brought, and how many parts were sent. Contracts see the state of a pairing, with the secret
-/// keys in place of the pairs.
+/// that the last opened part brought, and how many parts were sent. Contracts see the state of a pairing, with the
+/// secret keys in place of the pairs.
 #[derive(Drop)]
 pub struct Pairing<K: Kem> {
     made_by_sender: bool,
@@ -53,7 +53,8 @@ impl<K: Kem> Model for Pairing<K> {
 }
 
 impl<K: Kem> Pairing<K> {
-    /// Before anything is sent or opened: this side's pair, number 0 of its own, and the public key on the other's card.
+    /// Before anything is sent or opened: this side's pair, number 0 of its own, and the public key on the other's
+    /// card.
     ///
     /// `Memory` where an allocation was refused.
     #[tactic(auto, unfolding(member_book::specs::PairStates::at_start))]
@@ -129,8 +130,8 @@ impl<K: Kem> Pairing<K> {
         }
     }
 
-    /// The next part, with a payload: sealed to the newest key that is known of the other side. From then on the key that
-    /// it makes for the other side is the newest, and the own key that it makes is kept.
+    /// The next part, with a payload: sealed to the newest key that is known of the other side. From then on the key
+    /// that it makes for the other side is the newest, and the own key that it makes is kept.
     ///
     /// `Memory` where an allocation was refused; then the pairing is as before.
     pub fn send(
@@ -216,13 +217,13 @@ impl<K: Kem> Pairing<K> {
         payload
     }
 
-    /// Takes a part that the other side sent, and answers its payload. From then on the public key in it is the newest of
-    /// the other side, the pair in it opens parts that are sealed to it, and own keys up to the one that it was sealed to
-    /// are dropped.
+    /// Takes a part that the other side sent, and answers its payload. From then on the public key in it is the newest
+    /// of the other side, the pair in it opens parts that are sealed to it, and own keys up to the one that it was sealed
+    /// to are dropped.
     ///
     /// `None` exactly where the bytes are no part, or the part opens to nothing: by a key that is not kept, with another
-    /// tag, with a secret key of no tested pair, a number of 0 or a public key that is none. `Memory` where an allocation
-    /// was refused. After both the pairing is as before.
+    /// tag, with a secret key of no tested pair, a number of 0 or a public key that is none. `Memory` where an
+    /// allocation was refused. After both the pairing is as before.
     pub fn receive(&mut self, alloc: Global, part: &[u8]) -> Result<Option<[u8; 32]>, Memory>
         ensures answer { IfOk result (λ answer. answer
             ≡ option_map payload_of (received ⟦<K as Kem>⟧ self.old part.now)) }

@@ -178,8 +178,8 @@ fn exchange<K: Kem>(alloc: Global, script: &[u8]) -> Result<Vec<u8>, Fail> {
     Ok(names)
 }
 
-/// Each sends three before it takes any, each takes the other's three, each sends one more, each takes it. Then the same
-/// with the sides exchanged.
+/// Each sends three before it takes any, each takes the other's three, each sends one more, each takes it. Then the
+/// same with the sides exchanged.
 const CROSSING: [&[u8]; 2] = [b"PPPQQQpppqqqPQpq", b"QQQPPPqqqpppQPqp"];
 
 /// The last two are sealed to key number 3 of the receiver's own.
@@ -334,8 +334,8 @@ fn spoiled_accepted<K: Kem>(alloc: Global) -> Result<u32, Fail> {
     Ok(accepted)
 }
 
-/// The first five bytes of parts whose key is not kept: an origin of 2, own key 0, which is dropped, own keys 2 and 200,
-/// which were never made, and keys of number 2, 0 and 200 of the other side, whose last part had number 1.
+/// The first five bytes of parts whose key is not kept: an origin of 2, own key 0, which is dropped, own keys 2 and
+/// 200, which were never made, and keys of number 2, 0 and 200 of the other side, whose last part had number 1.
 const NOT_KEPT: [[u8; 5]; 7] = [
     [2, 0, 0, 0, 1],
     [0, 0, 0, 0, 0],
@@ -398,7 +398,8 @@ fn refused_parts_change_nothing(rt: HostRuntime) -> Result<(), Fail> {
     Ok(())
 }
 
-/// The bytes that a draw makes of the pair and the seed of an id: the secret keys by `make`, and the encapsulation's seed.
+/// The bytes that a draw makes of the pair and the seed of an id: the secret keys by `make`, and the encapsulation's
+/// seed.
 fn is_drawn(alloc: Global, draw: &PartDraw<Drill37>, id: &[u8; 32]) -> Result<bool, Fail> {
     let own = Drill37::make(alloc, &mut SeedWords::new(&kdf(&seed(1), b"own", id)))?;
     let other = Drill37::make(alloc, &mut SeedWords::new(&kdf(&seed(1), b"other", id)))?;
@@ -409,8 +410,8 @@ fn is_drawn(alloc: Global, draw: &PartDraw<Drill37>, id: &[u8; 32]) -> Result<bo
     Ok(own_is && other_is && draw.encapsulation == kdf(&seed(1), b"encap", id))
 }
 
-/// How many of three members have their draws, each taken once: the last, the first, one who isn't in the list, the last
-/// again, and the one between them.
+/// How many of three members have their draws, each taken once: the last, the first, one who isn't in the list, the
+/// last again, and the one between them.
 fn drawn_once(alloc: Global) -> Result<[bool; 5], Fail> {
     let ids = [[1; 32], [2; 32], [3; 32], [4; 32]];
     let [a, b, c, d] = ids;

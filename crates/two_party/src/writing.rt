@@ -47,7 +47,8 @@ pub(crate) fn write_target(made_by_sender: bool, number: u32, into: &mut [u8])
     rest.copy_from_slice(&number.to_be_bytes());
 }
 
-/// Writes a content: the payload, the receiver's new secret key, the number of the send and the sender's new public key.
+/// Writes a content: the payload, the receiver's new secret key, the number of the send and the sender's new public
+/// key.
 fn write_content<K: Kem>(
     payload: &[u8; 32],
     other: &K::Pair,
