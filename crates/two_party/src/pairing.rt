@@ -218,11 +218,11 @@ impl<K: Kem> Pairing<K> {
     }
 
     /// Takes a part that the other side sent, and answers its payload. From then on the public key in it is the newest
-    /// of the other side, the pair in it opens parts that are sealed to it, and own keys up to the one that it was sealed
-    /// to are dropped.
+    /// of the other side, the pair in it opens parts that are sealed to it, and own keys up to the one that it was
+    /// sealed to are dropped.
     ///
-    /// `None` exactly where the bytes are no part, or the part opens to nothing: by a key that is not kept, with another
-    /// tag, with a secret key of no tested pair, a number of 0 or a public key that is none. `Memory` where an
+    /// `None` exactly where the bytes are no part, or the part opens to nothing: by a key that is not kept, with
+    /// another tag, with a secret key of no tested pair, a number of 0 or a public key that is none. `Memory` where an
     /// allocation was refused. After both the pairing is as before.
     pub fn receive(&mut self, alloc: Global, part: &[u8]) -> Result<Option<[u8; 32]>, Memory>
         ensures answer { IfOk result (λ answer. answer
