@@ -1,17 +1,23 @@
-//! Pairs of the key encapsulation Sntrup761, and keys that are encapsulated to one and found by it.
+//! Pairs of the key encapsulation Sntrup761, read from their secret keys too, and keys that are encapsulated to one and
+//! found by it.
 
 use kem_trait::{Kem, KemRefusal, SeedWords};
 use ntru_prime::{Sntrup761, TestedPair};
 use sha2::{Digest, Sha256};
 use std::alloc::{AllocError, Global};
 
-/// How many bytes a public key and a ciphertext have.
+/// How many bytes a public key, a secret key and a ciphertext have.
 const PUBLIC: usize = 1158;
+
+const SECRET: usize = 1763;
 
 const CIPHER: usize = 1039;
 
 /// The pair of a seed. None where the seed gives no usable key.
-fn pair_of(alloc: Global, seed: &[u8; 32]) -> Result<Option<TestedPair<761>>, AllocError> {
+pub(crate) fn pair_of(
+    alloc: Global,
+    seed: &[u8; 32],
+) -> Result<Option<TestedPair<761>>, AllocError> {
     match Sntrup761::make(alloc, &mut SeedWords::new(seed)) {
         Ok(pair) => Ok(Some(pair)),
         Err(KemRefusal::NoUsableKey) => Ok(None),
@@ -19,7 +25,7 @@ fn pair_of(alloc: Global, seed: &[u8; 32]) -> Result<Option<TestedPair<761>>, Al
     }
 }
 
-fn public_of(pair: &TestedPair<761>) -> [u8; PUBLIC] {
+pub(crate) fn public_of(pair: &TestedPair<761>) -> [u8; PUBLIC] {
     let mut public = [0; PUBLIC];
     Sntrup761::public(pair, &mut public);
     public
@@ -34,6 +40,27 @@ pub(crate) fn make(alloc: Global, count: u32) -> Result<[u8; 32], AllocError> {
         }
     }
     Ok(seed)
+}
+
+/// Pairs read from a secret key, each from that of the one before.
+pub(crate) fn read(alloc: Global, count: u32) -> Result<[u8; 32], AllocError> {
+    let mut secret = [0u8; SECRET];
+    let Some(pair) = pair_of(alloc, &[0; 32])? else {
+        return Ok([0; 32]);
+    };
+    Sntrup761::secret(&pair, &mut secret);
+    for _ in 0..count {
+        read_again(alloc, &mut secret)?;
+    }
+    Ok(Sha256::digest(secret.as_slice()))
+}
+
+/// Reads the pair of a secret key, and writes the secret key of what was read in its place.
+fn read_again(alloc: Global, secret: &mut [u8; SECRET]) -> Result<(), AllocError> {
+    if let Some(pair) = Sntrup761::pair_from_secret(alloc, secret)? {
+        Sntrup761::secret(&pair, secret);
+    }
+    Ok(())
 }
 
 /// Keys encapsulated to one public key, each by the words of the one before.

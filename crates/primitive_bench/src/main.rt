@@ -3,6 +3,7 @@
 #![tactic(auto)]
 
 mod kems;
+mod parts;
 mod trees;
 mod work;
 

@@ -6,7 +6,7 @@ ghost use Rattle.ring_poly.specs.Ring.{IsCentred, IsModulus};
 ghost use Rattle.ring_solve.specs.Fields.{IsField};
 ghost use Rattle.ring_solve.specs.Solutions.{coefficients_of};
 
-use crate::{kems, trees};
+use crate::{kems, parts, trees};
 use ring_solve::Solved;
 use sha2::{Digest, Sha256};
 use std::alloc::{AllocError, Global};
@@ -42,6 +42,14 @@ pub enum Work {
     Encap,
     /// The key found by it.
     Decap,
+    /// A pair of Sntrup761 read from its secret key and tested.
+    TestPair,
+    /// What is drawn for a part of two-party messaging with Sntrup761.
+    DrawPart,
+    /// The same, and the part sent.
+    SendPart,
+    /// The same, and the part taken by the other side.
+    ReceivePart,
 }
 
 /// How many coefficients a polynomial has.
@@ -65,6 +73,10 @@ impl Work {
             "pair" => Some(Work::Pair),
             "encap" => Some(Work::Encap),
             "decap" => Some(Work::Decap),
+            "test-pair" => Some(Work::TestPair),
+            "draw-part" => Some(Work::DrawPart),
+            "send-part" => Some(Work::SendPart),
+            "receive-part" => Some(Work::ReceivePart),
             _ => None,
         }
     }
@@ -86,6 +98,10 @@ impl Work {
             Work::Pair => kems::make(alloc, count),
             Work::Encap => kems::encapsulate(alloc, count),
             Work::Decap => kems::decapsulate(alloc, count),
+            Work::TestPair => kems::read(alloc, count),
+            Work::DrawPart => parts::draw(alloc, count),
+            Work::SendPart => parts::send(alloc, count),
+            Work::ReceivePart => parts::receive(alloc, count),
         }
     }
 }
