@@ -1,0 +1,4 @@
+pub mod AnswerTables
+pub mod KeptTables
+pub mod Outcomes
+pub mod PlaceTables

@@ -1,0 +1,2 @@
+pub mod HeldBooks
+pub mod Kept
