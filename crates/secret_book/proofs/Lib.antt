@@ -2,3 +2,4 @@ pub mod AnswerTables
 pub mod KeptTables
 pub mod Outcomes
 pub mod PlaceTables
+pub mod Serving

@@ -1,2 +1,3 @@
 pub mod HeldBooks
 pub mod Kept
+pub mod Serving

@@ -3,6 +3,11 @@
 
 mod book;
 mod kept_secrets;
+mod laws;
 mod place_row;
 
 pub use book::Book;
+pub use laws::{a_book_serves_places, pairings_stand};
+
+#[cfg(test)]
+mod tests;
