@@ -150,10 +150,10 @@ fn ratchet(book: &Drill, place: u8) -> Option<[u8; 32]> {
     }
 }
 
-fn hand(book: &mut Drill, place: u8, ratchet: &Option<[u8; 32]>) {
+fn hand(book: &mut Drill, place: u8, ratchet: Option<[u8; 32]>) {
     if let Some(ratchet) = ratchet {
         if was_met(book, place) {
-            book.hand(place, *ratchet);
+            book.hand(place, ratchet);
         }
     }
 }
@@ -194,12 +194,17 @@ fn spend(book: &mut Drill, of: u8, place: u8) -> Option<[u8; 32]> {
 fn turns(book: &mut Drill) -> bool {
     let mut right = ratchet(book, 1) == Some([0; 32]) && tag(book, 1).is_none();
     for turn in &TURNS {
-        hand(book, 1, &turn.handed);
+        let handed = turn.handed;
+        let input = turn.input;
+        let secret = turn.secret;
+        let after = turn.ratchet;
+        let [first, second] = turn.tags;
+        hand(book, 1, handed);
         right = right
-            && step(book, 1, turn.input) == turn.secret
-            && ratchet(book, 1) == turn.ratchet
-            && tag(book, 1) == turn.tags[0]
-            && tag(book, 1) == turn.tags[1]
+            && step(book, 1, input) == secret
+            && ratchet(book, 1) == after
+            && tag(book, 1) == first
+            && tag(book, 1) == second
             && ratchet(book, 0) == Some([0; 32]);
     }
     right
@@ -293,10 +298,13 @@ fn story(alloc: Global, ada: &mut Drill, bob: &mut Drill) -> Result<bool, Fail> 
         && open(alloc, bob, 1, &[])?.is_none()
         && open(alloc, bob, 1, to_bob.as_slice())? == Some(seed(11))
         && open(alloc, bob, 1, to_bob.as_slice())?.is_none()
-        && open(alloc, ada, 2, to_ada.as_slice())?.is_none()
         && open(alloc, ada, 1, to_ada.as_slice())? == Some(seed(13));
     let answer = seal(alloc, bob, 1, 14)?;
-    Ok(right && open(alloc, ada, 1, answer.as_slice())? == Some(seed(14)))
+    Ok(
+        right
+            && open(alloc, ada, 2, answer.as_slice())?.is_none()
+            && open(alloc, ada, 1, answer.as_slice())? == Some(seed(14)),
+    )
 }
 
 #[test]
