@@ -27,8 +27,8 @@ pub record KeptSecret : Type 0 where
   pub place : ℕ
   pub secret : Bytes
 
--- A book as it is written down: the secret key of the pair on the own card, the places that were met, in their order, and
--- what is kept
+-- A book as it is written down: the secret key of the pair on the own card, the places that were met, in their order,
+-- and what is kept
 pub record BookTable : Type 0 where
   pub secret : Bytes
   pub places : List PlaceState

@@ -21,8 +21,10 @@ placed es b = record { ratchet = b.ratchet; chain = b.chain; events = es; kept =
 pub record ServesPlaces (es : ℕ → List PairEvent) (p : ℕ) (b : HeldBook) : Type 0 where
   pub meets : (public : Option Bytes) → placed es (met_with public b) ≡ placed es b
   pub hands : (r : Bytes) → placed es (handed p r b) ≡ hand_at p r (placed es b)
-  pub steps : (K : Primitives) (input : Option Bytes) → placed es (stepped K p input b) ≡ step_at K p input (placed es b)
-  pub gives : (K : Primitives) (input : Option Bytes) → secret_by K input (b.ratchet p) ≡ gives_at K p input (placed es b)
+  pub steps : (K : Primitives) (input : Option Bytes)
+      → placed es (stepped K p input b) ≡ step_at K p input (placed es b)
+  pub gives : (K : Primitives) (input : Option Bytes)
+      → secret_by K input (b.ratchet p) ≡ gives_at K p input (placed es b)
   pub chains : (K : Primitives) → placed es (chained K p b) ≡ chained_at K p (placed es b)
   pub keeps : (i : Id) (v : Bytes) → placed es (with_kept i p (Some v) b) ≡ keep_at i p v (placed es b)
   pub spends : (i : Id) → placed es (with_kept i p None b) ≡ spent_at i p (placed es b)

@@ -1,11 +1,12 @@
 //! The book.
 
-ghost use Rattle.std.specs.Prelude.{◌≡◌, ◌<◌, ◌-◌, ◌^◌, ℕ, true, length, Some, IsSome, IfSome, IfNone, IfOk, OnOk, OnErr};
-ghost use Rattle.std.specs.Prelude.{option_map};
+ghost use Rattle.std.specs.Prelude.{◌≡◌, ◌<◌, ◌-◌, ◌^◌, ℕ, true, length, Some, IsSome, IfSome, IfNone, IfOk, OnOk};
+ghost use Rattle.std.specs.Prelude.{OnErr, option_map};
 ghost use Rattle.std.specs.Option.{option_and_then};
 ghost use Rattle.group_keys.specs.Primitives.{primitives_of};
 ghost use Rattle.member_book.specs.PairStates.{at_start};
-ghost use Rattle.secret_book.specs.HeldBooks.{held, started, met_with, handed, stepped, secret_by, chained, text_key_of};
+ghost use Rattle.secret_book.specs.HeldBooks.{held, started, met_with, handed, stepped, secret_by, chained};
+ghost use Rattle.secret_book.specs.HeldBooks.{text_key_of};
 ghost use Rattle.secret_book.specs.HeldBooks.{with_kept, sealed_at, part_from, opened_at, payload_from};
 
 use crate::kept_secrets::KeptSecrets;
@@ -17,9 +18,9 @@ use std::alloc::Global;
 use std::marker::Model;
 use two_party::{Pairing, PartDraw};
 
-/// What one member holds of the members of its group, by their places: of each place its ratchet and its text chain, where
-/// they are known, and its pairing; and the inputs of answers, by operation and place. Contracts see the lists of these,
-/// and `held` of them.
+/// What one member holds of the members of its group, by their places: of each place its ratchet and its text chain,
+/// where they are known, and its pairing; and the inputs of answers, by operation and place. Contracts see the lists
+/// of these, and `held` of them.
 ///
 /// A book can't be dropped: `close` takes it.
 pub struct Book<K: Kem> {
@@ -90,8 +91,8 @@ impl<K: Kem> Book<K> {
         }
     }
 
-    /// Meets the next place: a member with this public key on its card, or, without one, the own place. Its ratchet is the
-    /// empty one from now on.
+    /// Meets the next place: a member with this public key on its card, or, without one, the own place. Its ratchet is
+    /// the empty one from now on.
     ///
     /// `Memory` where an allocation was refused; then the book is as before.
     pub fn meet(&mut self, alloc: Global, place: u8, public: Option<&[u8]>) -> Result<(), Memory>
@@ -128,8 +129,8 @@ impl<K: Kem> Book<K> {
         self.places[place as usize].seal(alloc, payload, draw)
     }
 
-    /// Takes a part of a place, and answers its payload. `None` exactly where it doesn't open by the place's pairing; then
-    /// the book is as before.
+    /// Takes a part of a place, and answers its payload. `None` exactly where it doesn't open by the place's pairing;
+    /// then the book is as before.
     ///
     /// `Memory` where an allocation was refused; then the book is as before.
     pub fn open_from(

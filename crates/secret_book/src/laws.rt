@@ -15,8 +15,8 @@ pub fn a_book_serves_places()
     ensures { (es : ℕ → List PairEvent) (p : ℕ) (b : HeldBook) → ServesPlaces es p b }
 {}
 
-/// The pairings of a book stand for the events of its places at the start, when a place is met, after each part that was
-/// sent and after each that opened; bytes that open to nothing leave the book as it was.
+/// The pairings of a book stand for the events of its places at the start, when a place is met, after each part that
+/// was sent and after each that opened; bytes that open to nothing leave the book as it was.
 pub fn pairings_stand<K: Kem>()
     ensures starts { (card : KeyPair) (keys : ℕ → Bytes) (es : ℕ → List PairEvent) → StartStands card keys es }
     ensures meets { (card : KeyPair) (keys : ℕ → Bytes) (es : ℕ → List PairEvent) → MeetStands card keys es }

@@ -17,8 +17,8 @@ use std::marker::Model;
 use std::mem::replace;
 use two_party::{Pairing, PartDraw};
 
-/// The ratchet and the text chain of a place, where they are known, and its pairing, which the own place lacks. The keys
-/// can't be dropped, and so the row can't: `retire` takes it.
+/// The ratchet and the text chain of a place, where they are known, and its pairing, which the own place lacks. The
+/// keys can't be dropped, and so the row can't: `retire` takes it.
 pub(crate) struct PlaceRow<K: Kem> {
     ratchet: Option<ChainKey>,
     chain: Option<TextChain>,

@@ -1,5 +1,5 @@
-//! The keys of a place against values of an independent program, and a story of two members whose parts are compared with
-//! those of a pairing of its own.
+//! The keys of a place against values of an independent program, and a story of two members whose parts are compared
+//! with those of a pairing of its own.
 ghost use Rattle.std.specs.Prelude.{◌≡◌, ◌<◌, true, length};
 
 use crate::Book;

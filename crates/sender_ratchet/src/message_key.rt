@@ -36,8 +36,8 @@ impl MessageKey {
         seal(&key, text)
     }
 
-    /// Opens a sealed text in place. `None` exactly where the tag is not the text's, which is then left as it was; the key
-    /// is spent all the same.
+    /// Opens a sealed text in place. `None` exactly where the tag is not the text's, which is then left as it was; the
+    /// key is spent all the same.
     #[tactic(auto, using(crate::proofs::Opened::own_tag_opens, crate::proofs::Opened::other_tag_opens, crate::proofs::Opened::sealed_tag_is, crate::proofs::Opened::sealed_text_is))]
     pub fn open(self, text: &mut [u8], tag: &[u8; 32]) -> Option<()>
         ensures only { IsSome result ↔ (tag.now ≡ tag_of self text.old) }

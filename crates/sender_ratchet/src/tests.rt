@@ -16,8 +16,8 @@ struct SealedText {
     tag: [u8; 32],
 }
 
-// Four steps of one ratchet from 32 zeros on, and three texts of the chain that the last update secret starts. Computed by
-// Python's hmac and hashlib, with a ChaCha20 written for it.
+// Four steps of one ratchet from 32 zeros on, and three texts of the chain that the last update secret starts.
+// Computed by Python's hmac and hashlib, with a ChaCha20 written for it.
 const STEPS: [Step; 4] = [
     Step {
         input: b"welcome",
