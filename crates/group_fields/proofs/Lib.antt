@@ -1,4 +1,5 @@
 pub mod CardBytes
+pub mod HeaderBytes
 pub mod IdBytes
 pub mod LayoutLaws
 pub mod ReadSteps

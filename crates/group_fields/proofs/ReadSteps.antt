@@ -6,13 +6,13 @@ use Rattle.std.proofs.lemmas.Bool.{cases_lt, lt-ltb, le-ltb, and_from}
 use Rattle.std.proofs.lemmas.List.{length-drop}
 use Rattle.std.proofs.lemmas.Nat.{be_bytes_2, be_bytes_4}
 use Rattle.std.proofs.lemmas.Slice.Eq.{bytes_eq-Decides}
-use Rattle.group_fields.specs.Fields.{Field, is_between, number_from}
+use Rattle.group_fields.specs.Fields.{Field, is_between, number_from, numbered}
 use Rattle.group_fields.specs.Layouts.{Layout, field, bytes_of, number}
-use Rattle.group_fields.specs.LayoutReads.{Found, Takes, before, found, left, read, read_field}
+use Rattle.group_fields.specs.LayoutReads.{Found, Takes, before, found, left, on_ok, read, read_field}
 use Rattle.group_fields.specs.Reading.{Reading}
 use Rattle.group_fields.specs.declared.fault.FieldFault.{FieldFault}
 use Rattle.group_fields.specs.declared.fault.FieldFault.TheVariants.{Range}
-use Rattle.group_fields.proofs.LayoutLaws.{found_is}
+use Rattle.group_fields.proofs.LayoutLaws.{field_outcome, found_is, is_refused, is_short, is_taken, not_allowed, short, taken}
 
 -- ---- a field whose bytes are taken first, and then judged
 
@@ -154,6 +154,53 @@ pub number_fault : (width : Width) (least greatest : ℕ) {U : Type 0} {seen_as 
     → Takes seen_as (bytes_of (byte_len width)) old new (Err fault) → Takes (λ m. m) (number width least greatest) old new (Err fault)
 unfolding number
 number_fault width least greatest takes = field_fault (λ m. m) (number_from width least greatest) takes
+
+-- ---- what numbers stand for
+
+module _ {A : Type 0} (width : Width) (least greatest : ℕ) (value : ℕ → A) (number_of : A → ℕ)
+    (back : (n : ℕ) → is_between least greatest n ≡ true → number_of (value n) ≡ n) where
+  as_numbers : (n : ℕ) (bytes : List ℕ) → (is_between least greatest n && bytes_eq (to_be_bytes width (number_of (value n))) bytes)
+      ≡ (is_between least greatest n && bytes_eq (to_be_bytes width n) bytes)
+  as_numbers n bytes = by_test (is_between least greatest n) refl
+    where
+      by_test : (b : Bool) → is_between least greatest n ≡ b → (is_between least greatest n && bytes_eq (to_be_bytes width (number_of (value n))) bytes)
+          ≡ (is_between least greatest n && bytes_eq (to_be_bytes width n) bytes)
+      by_test true e = ap (λ (m : ℕ). is_between least greatest n && bytes_eq (to_be_bytes width m) bytes) (back n e)
+      by_test false e = rw e refl
+
+  numbered_read : (place : ℕ) (bytes : List ℕ) → read (field (numbered width (is_between least greatest) value number_of)) place bytes
+      ≡ on_ok (read (field (number_from width least greatest)) place bytes) (λ x. Ok (found (value x.value) x.place x.rest))
+  unfolding read
+  numbered_read place bytes =
+      let part = take (byte_len width) bytes in
+      let same = as_numbers (from_be_bytes width part) part in
+      let f = numbered width (is_between least greatest) value number_of in
+      elim (field_outcome (number_from width least greatest) place bytes) [
+        | is_short lt e ↦ rw (e, short f place bytes lt) refl
+        | is_refused le refused e ↦ rw (e, not_allowed f place bytes le (same ∙ refused)) refl
+        | is_taken le allowed e ↦ rw (e, taken f place bytes le (same ∙ allowed)) refl
+      ]
+
+  pub numbered_fault : {old new : Reading} {fault : FieldFault} → Takes (λ n. n) (number width least greatest) old new (Err fault)
+      → Takes (λ a. a) (field (numbered width (is_between least greatest) value number_of)) old new (Err fault)
+  unfolding number
+  numbered_fault {old} {new} {fault} takes =
+      record {
+        gives = numbered_read old.place (left old) ∙ ap (λ r. on_ok r (λ x. Ok (found (value x.value) x.place x.rest))) takes.gives;
+        same = takes.same;
+        within = takes.within;
+      }
+
+  pub numbered_value : {old new : Reading} {n : ℕ} (a : A) → a ≡ value n → Takes (λ n. n) (number width least greatest) old new (Ok n)
+      → Takes (λ a. a) (field (numbered width (is_between least greatest) value number_of)) old new (Ok a)
+  unfolding number
+  numbered_value {old} {new} {n} a is takes =
+      record {
+        gives = numbered_read old.place (left old) ∙ ap (λ r. on_ok r (λ x. Ok (found (value x.value) x.place x.rest))) takes.gives
+            ∙ ap (λ (v : A). Ok (found v new.place (left new))) (sym is);
+        same = takes.same;
+        within = takes.within;
+      }
 
 -- ---- what a test that was negated says
 

@@ -7,9 +7,9 @@ use Rattle.std.proofs.lemmas.List.{append-nil, take_all, take_at}
 use Rattle.std.proofs.lemmas.Result.{on_ok_weaker}
 use Rattle.std.proofs.lemmas.Nat.{from_be_bytes-to_be_bytes_2, from_be_bytes-to_be_bytes_4}
 use Rattle.std.proofs.lemmas.Slice.Eq.{bytes_eq-Decides}
-use Rattle.group_fields.specs.Fields.{bytes_with, is_above, is_between}
+use Rattle.group_fields.specs.Fields.{bytes_with, is_above, is_between, numbered}
 use Rattle.group_fields.specs.LayoutWrites.{Appends, ascends}
-use Rattle.group_fields.specs.Layouts.{Layout, Shape, Spells, behind, shaped, bytes_of, counted, counted_ids, digest, first_and_others, ids_above, implied, known, next_id, number, enclosed, sized, written}
+use Rattle.group_fields.specs.Layouts.{Layout, Shape, Spells, behind, field, shaped, bytes_of, counted, counted_ids, digest, first_and_others, ids_above, implied, known, next_id, number, enclosed, sized, written}
 use Rattle.group_fields.specs.declared.ids.Digest.{Digest}
 use Rattle.group_fields.proofs.LayoutLaws.{written_is}
 
@@ -93,6 +93,21 @@ pub number_appended : {E : Type 0} (width : Width) (n : ℕ) (old new part : Lis
 number_appended width n old new part (Ok done) is same spelled = λ least greatest between.
     record { back = to_be_bytes width n; whole = is ∙ ap (λ (l : List ℕ). old ++ l) same; spelled = spelled least greatest between }
 number_appended width n old new part (Err e) is same spelled = tt
+
+-- what a number stands for
+pub numbered_appended : {A : Type 0} (width : Width) (least greatest : ℕ) (value : ℕ → A) (number_of : A → ℕ) (a : A) (n : ℕ) (old new : List ℕ)
+    → value n ≡ a → number_of a ≡ n → Appends (number width least greatest) n old new
+    → Appends (field (numbered width (is_between least greatest) value number_of)) a old new
+unfolding number
+numbered_appended width least greatest value number_of a n old new is back one =
+    let fills = one.spelled.0 in
+    let read = from_be_bytes width one.back in
+    let n_is : n ≡ read = one.spelled.1 in
+    let both = and_parts (is_between least greatest read) (bytes_eq (to_be_bytes width read) one.back) fills.allowed in
+    let same : number_of (value read) ≡ read = ap (λ (m : ℕ). number_of (value m)) (sym n_is) ∙ ap number_of is ∙ back ∙ n_is in
+    let allowed = and_from (is_between least greatest read) (bytes_eq (to_be_bytes width (number_of (value read))) one.back) both.0
+    (ap (λ (m : ℕ). bytes_eq (to_be_bytes width m) one.back) same ∙ both.1) in
+    record { back = one.back; whole = one.whole; spelled = (record { size = fills.size; allowed = allowed }, sym is ∙ ap value n_is) }
 
 pub id_appended : {E : Type 0} (id : Digest) (old new : List ℕ) (result : Result (Unit {0}) E)
     → new ≡ (if is_ok result then old ++ id.0 else old) → length id.0 ≡ 32

@@ -3,6 +3,8 @@ pub mod Cards
 pub mod Cause
 pub mod Counts
 pub mod Fields
+pub mod HeaderViews
+pub mod Headers
 pub mod Ids
 pub mod LayoutReads
 pub mod LayoutWrites

@@ -175,6 +175,7 @@ pub fn take_counted_ids<'a>(
 ) -> Result<IdsView<'a>, FieldFault>
     requires { cursor.old.place < 2 ^ 30 }
     ensures takes { Takes (λ ids. ids) (counted_ids least greatest) cursor.old cursor.new result }
+    ensures few { IfOk result (λ ids. length ids ≤ greatest) }
     ensures moved { IfOk result (λ ids. cursor.new.place ≡ cursor.old.place + (1 + 32 * length ids)) }
 {
     let count = take_u8(cursor, least, greatest)?;

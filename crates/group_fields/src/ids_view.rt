@@ -1,7 +1,9 @@
-ghost use Rattle.std.specs.Prelude.{◌≡◌, ◌<◌, ◌*◌, Some, length, slice_get};
+ghost use Rattle.std.specs.Prelude.{◌≡◌, ◌<◌, ◌*◌, Some, length, slice_get, IfOk};
 ghost use Rattle.group_fields.specs.Ids.{ids_in};
 
-use crate::ids::Digest;
+use crate::Memory;
+use crate::ids::{Digest, Ids};
+use std::alloc::Global;
 use std::marker::Model;
 
 /// Ids that are lent out of the bytes in which they stand one behind the other. Contracts see the list of them.
@@ -57,5 +59,16 @@ impl<'a> IdsView<'a> {
         let mut id = [0; 32];
         id.copy_from_slice(&self.bytes[from..from + 32]);
         Digest(id)
+    }
+
+    /// The ids as a list of their own.
+    pub fn to_ids(&self, alloc: Global) -> Result<Ids, Memory>
+        ensures { IfOk result (λ ids. ids ≡ self.now) }
+    {
+        let mut ids = Ids::new(alloc);
+        for index in 0..self.count() {
+            ids.push(self.id(index))?;
+        }
+        Ok(ids)
     }
 }

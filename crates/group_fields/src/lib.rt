@@ -1,5 +1,5 @@
-//! The values that every other crate speaks of: ids, byte strings, texts, the reader of fields, and the counts that
-//! each device keeps of its failures.
+//! The values that every other crate speaks of: ids, byte strings, texts, cards, headers, the reader of fields, and the
+//! counts that each device keeps of its failures.
 #![tactic(auto)]
 
 mod bytes;
@@ -10,6 +10,8 @@ mod counts;
 mod cursor;
 mod fault;
 mod fields;
+mod header;
+mod header_view;
 mod ids;
 mod ids_view;
 #[cfg(test)]
@@ -28,7 +30,9 @@ pub use fields::{
     end, take_bytes, take_counted_ids, take_digest, take_ids, take_known, take_next_id, take_u8,
     take_u16, take_u32,
 };
-pub use ids::{Digest, GroupId, MemberId, MessageId};
+pub use header::{Header, Kind, Target, headers_are_spelled_once, write_header};
+pub use header_view::{HeaderView, TargetView, read_header, take_header};
+pub use ids::{Digest, GroupId, Ids, MemberId, MessageId};
 pub use ids_view::IdsView;
 use std::alloc::AllocError;
 pub use text::Text;

@@ -1,5 +1,6 @@
 mod cards;
 mod fields;
+mod headers;
 
 use super::*;
 use std::alloc::{AllocError, Global};

@@ -2,6 +2,8 @@ use Rattle.std.specs.Int.{w8}
 use Rattle.std.proofs.lemmas.Result.{err_from_is_err_and}
 use Rattle.group_fields.specs.Layouts.{ids_above, number}
 use Rattle.std.specs.Prelude.{None}
+use Rattle.group_fields.proofs.HeaderBytes.{counted_few}
+use Rattle.group_fields.specs.LayoutReads.{found, left}
 use Rattle.group_fields.proofs.Shifts.{count_fault, counted_fault, counted_value}
 use Rattle.group_fields.proofs.fields.take_counted_ids.Goals as goal
 
@@ -18,3 +20,10 @@ returns-in_err-ids-clause-takes c =
 pub returns-clause-takes : goal.returns-clause-takes
 returns-clause-takes c =
     counted_value (λ ids. ids) (number w8 c.args.least c.args.greatest) (λ n. ids_above n None) c.in_ok-count.count c.in_ok-ids.ids c.in_ok-count.ensures.takes c.in_ok-ids.ensures.takes c.in_ok-ids.ensures.count
+
+pub returns-clause-few : goal.returns-clause-few
+returns-clause-few c =
+    let ids = c.in_ok-ids.ids in
+    let new = c.take_ids.new.cursor in
+    let takes = counted_value (λ ids. ids) (number w8 c.args.least c.args.greatest) (λ n. ids_above n None) c.in_ok-count.count ids c.in_ok-count.ensures.takes c.in_ok-ids.ensures.takes c.in_ok-ids.ensures.count in
+    counted_few c.args.least c.args.greatest c.args.cursor.now.place (left c.args.cursor.now) (found ids new.place (left new)) takes.gives
