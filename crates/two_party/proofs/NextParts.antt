@@ -1,5 +1,5 @@
 -- The next part from its fields.
-use Rattle.std.proofs.Common.{◌≡◌, ◌+◌, ◌-◌, ◌^◌, ◌<◌, true, ◌∷◌, ◌++◌, length, Option, Some, None, sym, ◌∙◌, ap, ap₂, option_map}
+use Rattle.std.proofs.Common.{ℕ, take, ◌≡◌, ◌+◌, ◌-◌, ◌^◌, ◌<◌, true, ◌∷◌, ◌++◌, length, Option, Some, None, sym, ◌∙◌, ap, ap₂, option_map}
 use Rattle.std.specs.Int.{w32, to_be_bytes}
 use Rattle.kem_trait.specs.declared.kem.Kem.{Ghosts}
 use Rattle.hkdf_seal.specs.Sealing.{sealed_with_tag}
@@ -13,6 +13,7 @@ use Rattle.group_keys.specs.Primitives.{primitives_of}
 use Rattle.member_book.specs.PairStates.{PairState, next_content, next_part}
 use Rattle.std.proofs.Common.{Bool, ◌&&◌, cond, nat_eq, nat_lt, arith}
 use Rattle.std.proofs.lemmas.Bool.{and_from}
+use Rattle.std.proofs.lemmas.List.{take_at}
 use Rattle.std.proofs.lemmas.Bool.Decides.{nat_tests}
 
 module _ {K P : Type 0} (kem : Ghosts K P) where
@@ -62,3 +63,9 @@ module _ {K P : Type 0} (kem : Ghosts K P) where
       ap₂ (λ (z : PairState) (y : Draws). option_map (part_bytes kem) (next_part (primitives_of kem) z y payload)) (sym ke) (sym de)
       ∙ next_part-made k' d' payload key ciphertext sealed n own pub' other (rw ke low) (ap₂ (encapsulation kem) (sym pe) (sym se) ∙ enc) s
       ∙ ap (λ (z : Bytes). Some (z ++ (ciphertext ++ sealed))) (sym t)
+
+  -- a public key that is written over another is one
+  pub written-public : (public rest : Bytes) (n : ℕ) (pair : P) → length public ≡ n
+      → public ≡ kem.public_in (kem.secret_key pair) → kem.is_public (take n (public ++ rest)) ≡ true
+  written-public public rest n pair l e = ap kem.is_public (take_at public rest n l ∙ e)
+      ∙ kem.public_is_public (kem.secret_key pair) (kem.pairs_are_tested pair)

@@ -4,6 +4,7 @@
 
 mod draws;
 mod laws;
+mod own_key;
 mod pairing;
 mod reading;
 mod writing;

@@ -3,13 +3,14 @@
 ghost use Rattle.std.specs.Prelude.{◌≡◌, ◌<◌, ◌≤◌, ◌+◌, ◌-◌, ◌^◌, drop, length, true, Some, IfOk, IsErr, option_map};
 ghost use Rattle.group_parts.specs.Parts.{part_bytes, part_len};
 ghost use Rattle.group_keys.specs.Primitives.{primitives_of};
-ghost use Rattle.member_book.specs.PairStates.{PairState, at_start, after_send, next_part, kept_key, brought_if};
+ghost use Rattle.member_book.specs.PairStates.{PairState, at_start, after_send, next_part, own_at, brought_if};
 ghost use Rattle.member_book.specs.PairStates.{opens_to, drops, after_open};
 ghost use Rattle.two_party.specs.Received.{received, after_part, payload_of};
 
 use crate::draws::PartDraw;
+use crate::own_key::OwnKey;
 use crate::reading::{Opened, four_at, is_part, open_by, tail};
-use crate::writing::{encapsulate, part_len, secret_bytes, write_sealed, write_target};
+use crate::writing::{encapsulate, part_len, write_sealed, write_target};
 use group_fields::{Bytes, Memory};
 use kem_trait::Kem;
 use std::alloc::Global;
@@ -22,21 +23,21 @@ struct BroughtPair<K: Kem> {
     pair: K::Pair,
 }
 
-/// One side of a pair of members: which key the next part is sealed to, the own pairs that are not dropped, the pair
+/// One side of a pair of members: which key the next part is sealed to, the own keys that are not dropped, the pair
 /// that the last opened part brought, and how many parts were sent. Contracts see the state of a pairing, with the
-/// secret keys in place of the pairs.
+/// secret key in place of that pair.
 #[derive(Drop)]
 pub struct Pairing<K: Kem> {
     made_by_sender: bool,
     number: u32,
     public: Vec<u8>,
-    own: Vec<K::Pair>,
+    pub(crate) own: Vec<OwnKey<K>>,
     last: Option<BroughtPair<K>>,
     sends: u32,
 }
 
 impl<K: Kem> Model for Pairing<K> {
-    ghost use Rattle.std.specs.Prelude.{◌≡◌, ◌≤◌, ◌+◌, ◌-◌, length, map, true, option_map};
+    ghost use Rattle.std.specs.Prelude.{◌≡◌, ◌≤◌, ◌+◌, ◌-◌, length, true, option_map};
     ghost use Rattle.member_book.specs.PairStates.{PairState};
 
     ghost Value = { PairState };
@@ -44,7 +45,7 @@ impl<K: Kem> Model for Pairing<K> {
     ghost view = { λ p. record {
       target = record { made_by_sender = p.made_by_sender; number = p.number; public = p.public.items };
       below = p.sends + 1 - length p.own.items;
-      own = map K.secret_key p.own.items;
+      own = p.own.items;
       last = option_map (λ b. record { number = b.number; secret = K.secret_key b.pair }) p.last;
       sends = p.sends;
     } };
@@ -62,10 +63,8 @@ impl<K: Kem> Pairing<K> {
         requires { K.is_public public.now ≡ true }
         ensures { IfOk result (λ pairing. pairing ≡ at_start (K.secret_key mine.now) public.now) }
     {
-        let secret = secret_bytes::<K>(alloc, mine)?;
-        let pair = K::pair_from_secret(alloc, secret.as_slice())?.unwrap();
         let mut own = Vec::new(alloc);
-        own.push(pair)?;
+        own.push(OwnKey::new(alloc, mine)?)?;
         let mut kept = Vec::new(alloc);
         kept.extend_from_slice(public)?;
         Ok(Pairing {
@@ -106,13 +105,10 @@ impl<K: Kem> Pairing<K> {
         );
     }
 
-    /// The kept key of an origin and a number.
-    fn key(&self, made_by_sender: bool, number: u32) -> Option<&K::Pair>
-        ensures { option_map (λ pair. K.secret_key pair.now) result ≡ kept_key self.now made_by_sender number }
+    /// The own key of a number, where it is kept.
+    fn own_key(&self, number: u32) -> Option<&OwnKey<K>>
+        ensures { option_map (λ key. key.now) result ≡ own_at self.now.below self.now.own number }
     {
-        if made_by_sender {
-            return self.last_key(number);
-        }
         let below = self.sends as u64 + 1 - self.own.len() as u64;
         if (number as u64) < below {
             return None;
@@ -146,9 +142,10 @@ impl<K: Kem> Pairing<K> {
         ensures kept { IfOk result (λ bytes. self.new ≡ after_send self.old draw) }
         ensures unchanged { IsErr result → self.new ≡ self.old }
     {
+        let own = OwnKey::new(alloc, &draw.own)?;
         let mut part = vec![in alloc; 0; part_len::<K>()]?;
         self.write_next(payload, &draw, part.as_mut_slice());
-        self.own.push(draw.own)?;
+        self.own.push(own)?;
         self.made_by_sender = true;
         self.number = self.sends + 1;
         K::public(&draw.other, self.public.as_mut_slice());
@@ -174,10 +171,16 @@ impl<K: Kem> Pairing<K> {
           sealed = sealed.now;
         })) }
     {
-        let Some(pair) = self.key(made_by_sender, number) else {
+        if made_by_sender {
+            let Some(pair) = self.last_key(number) else {
+                return Ok(None);
+            };
+            return open_by::<K>(alloc, pair, ciphertext, sealed);
+        }
+        let Some(key) = self.own_key(number) else {
             return Ok(None);
         };
-        open_by::<K>(alloc, pair, ciphertext, sealed)
+        open_by::<K>(alloc, &key.pair(alloc)?, ciphertext, sealed)
     }
 
     /// Drops the first own keys.

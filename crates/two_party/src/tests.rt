@@ -1,5 +1,6 @@
 //! Two sides that exchange parts, against an independent reading of the rules: which key a part is sealed to, and that
 //! it opens to its payload.
+use crate::own_key::OwnKey;
 use crate::{Pairing, PartDraw, draw_parts};
 use group_fields::{Bytes, Digest, MemberId};
 use hkdf_seal::{kdf, seal};
@@ -395,6 +396,85 @@ fn refused_parts_change_nothing(rt: HostRuntime) -> Result<(), Fail> {
     assert_eq!(rt; unknown_keys_accepted::<Drill37>(rt.alloc())?, 0);
     assert!(rt; contents_are_judged::<Drill37>(rt.alloc())?);
     assert!(rt; contents_are_judged::<Sntrup761>(rt.alloc())?);
+    Ok(())
+}
+
+/// A draw whose two pairs have this secret key.
+fn draw_with<K: Kem>(alloc: Global, secret: &[u8], number: u32) -> Result<PartDraw<K>, Fail> {
+    if secret.len() != K::SECRET_LEN {
+        return Err(Fail::new("no secret key"));
+    }
+    match (
+        K::pair_from_secret(alloc, secret)?,
+        K::pair_from_secret(alloc, secret)?,
+    ) {
+        (Some(own), Some(other)) => Ok(PartDraw {
+            own,
+            other,
+            encapsulation: seed(number),
+        }),
+        _ => Err(Fail::new("the secret key of a pair is none")),
+    }
+}
+
+/// A side that sent so many parts and took none, each with the pair of number 3 for both.
+fn side_that_sent<K: Kem>(alloc: Global, count: u32) -> Result<Pairing<K>, Fail> {
+    let secret = secret_of::<K>(alloc, &pair::<K>(alloc, 3)?)?;
+    let mut side = start::<K>(alloc, 1, 2)?;
+    for number in 0..count {
+        let draw = draw_with::<K>(alloc, secret.as_slice(), number)?;
+        if side.sends() < count {
+            side.send(alloc, &payload(number), draw)?;
+        }
+    }
+    Ok(side)
+}
+
+/// How many bytes the own keys of a side have on the heap.
+fn own_bytes<K: Kem>(side: &Pairing<K>) -> usize {
+    let mut bytes = side.own.capacity().wrapping_mul(size_of::<OwnKey<K>>());
+    for key in side.own.as_slice() {
+        bytes = bytes.wrapping_add(key.secret.capacity());
+    }
+    bytes
+}
+
+/// Whether a part opens that is sealed to an own key of a side that sent parts.
+fn opens_by<K: Kem>(alloc: Global, side: &mut Pairing<K>, number: u32) -> Result<bool, Fail> {
+    let to = pair::<K>(alloc, 3)?;
+    let secret = secret_of::<K>(alloc, &to)?;
+    let public = public_of::<K>(alloc, &to)?;
+    let content = content(alloc, secret.as_slice(), 1, public.as_slice())?;
+    let [a, b, c, d] = number.to_be_bytes();
+    let part = forged::<K>(alloc, [0, a, b, c, d], &to, content.as_slice())?;
+    Ok(side.receive(alloc, part.as_slice())?.is_some())
+}
+
+/// Own keys that parts are sealed to, one after the other, whether the part opens, and how many own keys are kept then.
+const OWN_KEYS: [(u32, bool, usize); 6] = [
+    (1_001, false, 1_001),
+    (700, true, 300),
+    (700, false, 300),
+    (1, false, 300),
+    (701, true, 299),
+    (1_000, true, 0),
+];
+
+/// Whether a side that sent 1,000 parts keeps 1,001 own keys, and those that the table says, in at most 2,500 bytes each.
+fn own_keys_are_dropped<K: Kem>(alloc: Global) -> Result<bool, Fail> {
+    let mut side = side_that_sent::<K>(alloc, 1_000)?;
+    let mut right = own_bytes::<K>(&side) <= 1_001 * 2_500;
+    for (number, opens, kept) in OWN_KEYS {
+        right = right
+            && opens_by::<K>(alloc, &mut side, number)? == opens
+            && side.own.len() == kept;
+    }
+    Ok(right)
+}
+
+#[test]
+fn own_keys_are_small(rt: HostRuntime) -> Result<(), Fail> {
+    assert!(rt; own_keys_are_dropped::<Sntrup761>(rt.alloc())?);
     Ok(())
 }
 
