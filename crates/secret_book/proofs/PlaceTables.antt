@@ -1,6 +1,7 @@
 -- Lists of places as functions of a place, and what a book holds after one of its places changed.
-use Rattle.std.proofs.Common.{◌≡◌, ℕ, zero, suc, ◌+◌, ◌<◌, Bool, true, false, List, [], ◌∷◌, ◌++◌, length, get_or, set, Option, Some, None}
+use Rattle.std.proofs.Common.{◌≡◌, ℕ, zero, suc, ◌+◌, ◌<◌, ◌≤◌, Bool, true, false, List, [], ◌∷◌, ◌++◌, length, get_or, set, Option, Some, None}
 use Rattle.std.proofs.Common.{Bor, refl, sym, ◌∙◌, ap, ap₂, cond, arith, nat_eq, slice_index_or, slice_set, length-append, option_map}
+use Rattle.std.proofs.lemmas.List.{set-get_or}
 use Rattle.group_model.specs.Sets.{Bytes}
 use Rattle.group_model.specs.Primitives.{Primitives}
 use Rattle.group_model.specs.KeyTerms.{empty_ratchet, first_chain, next_chain}
@@ -9,7 +10,7 @@ use Rattle.group_model.proofs.Verdicts.{says-equal}
 use Rattle.member_book.specs.PairStates.{PairState, at_start}
 use Rattle.member_book.specs.Places.{put_at}
 use Rattle.secret_book.specs.HeldBooks.{PlaceState, BookTable, fresh_place, at_places, kept_by, held, handed, stepped}
-use Rattle.secret_book.specs.HeldBooks.{ratchet_by, secret_by, chained, with_pairing, met_with}
+use Rattle.secret_book.specs.HeldBooks.{ratchet_by, secret_by, chained, with_pairing, met_with, NothingKept, NothingHeld}
 
 same-test : (a b : Bool) → (a ≡ true → b ≡ true) → (b ≡ true → a ≡ true) → a ≡ b
 same-test true b f g = sym (f refl)
@@ -75,6 +76,11 @@ push-put f d xs x = λ i q. at-push f d xs x q i
 at-end : {A B : Type 0} (f : A → B) (d : B) (xs : List A) → at_places f d xs (length xs) ≡ d
 at-end f d [] = refl
 at-end f d (x ∷ xs) = at-end f d xs
+
+at-behind : {A B : Type 0} (f : A → B) (d : B) (xs : List A) (p : ℕ) → length xs ≤ p → at_places f d xs p ≡ d
+at-behind f d [] p l = refl
+at-behind f d (x ∷ xs) zero l = absurd (omega (arith, l))
+at-behind f d (x ∷ xs) (suc p) l = at-behind f d xs p (omega (arith, l))
 
 length-set : {A : Type 0} (xs : List A) (p : ℕ) (x : A) → length (set xs p x) ≡ length xs
 length-set [] p x = refl
@@ -147,6 +153,26 @@ module _ (b : BookTable) (p : ℕ) (old : PlaceState) (l : p < length b.places) 
   chain-set c = keys-set old.ratchet c
       ∙ ap (λ f. record (held b) { ratchet = f; chain = put_at (held b).chain p c })
       (put-same (held b).ratchet p old.ratchet place-ratchet)
+
+-- nothing is held of places that were not met
+none-held : (b : BookTable) → NothingKept (length b.places) (kept_by b.kept) → NothingHeld (length b.places) (held b)
+unfolding held
+none-held b h = record {
+  ratchet = at-behind (λ (s : PlaceState). s.ratchet) (Some empty_ratchet) b.places;
+  chain = at-behind (λ (s : PlaceState). s.chain) None b.places;
+  pairing = at-behind (λ (s : PlaceState). s.pairing) None b.places;
+  kept = h;
+}
+
+pub unmet : (b a : BookTable) (v : b ≡ a) (n : ℕ) → n ≡ length a.places → NothingKept (length b.places) (kept_by b.kept)
+    → NothingHeld n (held a)
+unmet b a v n e h = rw (e, ← v) (none-held b h)
+
+-- a place that stays as it was
+pub after-none : (b a : BookTable) (v : b ≡ a) (p : ℕ) (old new : PlaceState) → old ≡ slice_index_or b.places p old
+    → new ≡ old → record b { places = slice_set b.places p new } ≡ a
+after-none b a v p old new at e = ap (λ s. record b { places = slice_set b.places p s }) e
+    ∙ ap (λ z. record b { places = z }) (ap (slice_set b.places p) at ∙ set-get_or b.places p old) ∙ v
 
 -- a place that is met
 pub place-pushed : (b : BookTable) (k : Option PairState)

@@ -6,7 +6,7 @@ use Rattle.std.specs.Option.{option_and_then}
 use Rattle.kem_trait.specs.declared.kem.Kem.{Ghosts}
 use Rattle.group_model.specs.Sets.{Bytes}
 use Rattle.group_model.specs.Primitives.{KeyPair, Content}
-use Rattle.group_model.specs.Pairing.{Part, Draws, PairEvent, Sent, Opened}
+use Rattle.group_model.specs.Pairing.{Part, PairEvent, Sent, Opened}
 use Rattle.group_model.proofs.ListFacts.{yes_is, no_is, test}
 use Rattle.group_model.proofs.Verdicts.{says-equal}
 use Rattle.group_parts.specs.Parts.{part_in, part_read, part_len}

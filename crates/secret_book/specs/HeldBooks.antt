@@ -1,7 +1,7 @@
 -- What a book holds of each place, and what each call makes of it. docs/GROUP.md, "The book of a
 -- member".
-use Rattle.std.specs.Prelude.{ℕ, zero, suc, ◌+◌, ◌&&◌, cond, List, [], ◌∷◌, length, Option, Some, None, bytes_eq}
-use Rattle.std.specs.Prelude.{nat_eq, option_map}
+use Rattle.std.specs.Prelude.{◌≡◌, ◌≤◌, ℕ, zero, suc, ◌+◌, ◌&&◌, cond, List, [], ◌∷◌, length, Option, Some, None}
+use Rattle.std.specs.Prelude.{bytes_eq, nat_eq, option_map}
 use Rattle.kem_trait.specs.declared.kem.Kem.{Ghosts}
 use Rattle.group_model.specs.Sets.{Bytes, Id}
 use Rattle.group_model.specs.Primitives.{Primitives}
@@ -49,7 +49,11 @@ abbrev pub kept_by : List KeptSecret → (of : Id) → ℕ → Option Bytes
 kept_by [] of place = None
 kept_by (k ∷ ks) of place = cond (bytes_eq of k.of && nat_eq place k.place) (Some k.secret) (kept_by ks of place)
 
--- What a book holds. A place that was not met has the ratchet that it is met with
+-- nothing is kept for the answers of this place or of a place behind it
+abbrev pub NothingKept : ℕ → ((of : Id) → ℕ → Option Bytes) → Type 0
+NothingKept place kept = (of : Id) (p : ℕ) → place ≤ p → kept of p ≡ None
+
+-- What a book holds
 pub record HeldBook : Type 0 where
   pub secret : Bytes
   -- how many places were met
@@ -58,6 +62,14 @@ pub record HeldBook : Type 0 where
   pub chain : ℕ → Option Bytes
   pub pairing : ℕ → Option PairState
   pub kept : (of : Id) → ℕ → Option Bytes
+
+-- Nothing is held of this place, nor of a place behind it: it has the ratchet that a place is met with, no text chain
+-- and no pairing, and nothing is kept for its answers
+pub record NothingHeld (place : ℕ) (b : HeldBook) : Type 0 where
+  pub ratchet : (p : ℕ) → place ≤ p → b.ratchet p ≡ Some empty_ratchet
+  pub chain : (p : ℕ) → place ≤ p → b.chain p ≡ None
+  pub pairing : (p : ℕ) → place ≤ p → b.pairing p ≡ None
+  pub kept : NothingKept place b.kept
 
 unfoldable pub held : BookTable → HeldBook
 held b = record {

@@ -6,7 +6,7 @@ ghost use Rattle.std.specs.Option.{option_and_then};
 ghost use Rattle.group_keys.specs.Primitives.{primitives_of};
 ghost use Rattle.member_book.specs.PairStates.{at_start};
 ghost use Rattle.secret_book.specs.HeldBooks.{held, started, met_with, handed, stepped, secret_by, chained};
-ghost use Rattle.secret_book.specs.HeldBooks.{text_key_of};
+ghost use Rattle.secret_book.specs.HeldBooks.{text_key_of, NothingHeld};
 ghost use Rattle.secret_book.specs.HeldBooks.{with_kept, sealed_at, part_from, opened_at, payload_from};
 
 use crate::kept_secrets::KeptSecrets;
@@ -20,7 +20,7 @@ use two_party::{Pairing, PartDraw};
 
 /// What one member holds of the members of its group, by their places: of each place its ratchet and its text chain,
 /// where they are known, and its pairing; and the inputs of answers, by operation and place. Contracts see the lists
-/// of these, and `held` of them.
+/// of these, and `held` of them. Nothing is kept for a place that was not met.
 ///
 /// A book can't be dropped: `close` takes it.
 pub struct Book<K: Kem> {
@@ -30,7 +30,8 @@ pub struct Book<K: Kem> {
 }
 
 impl<K: Kem> Model for Book<K> {
-    ghost use Rattle.secret_book.specs.HeldBooks.{BookTable};
+    ghost use Rattle.std.specs.Prelude.{length};
+    ghost use Rattle.secret_book.specs.HeldBooks.{BookTable, NothingKept, kept_by};
 
     ghost Value = { BookTable };
 
@@ -39,6 +40,8 @@ impl<K: Kem> Model for Book<K> {
       places = book.places.items;
       kept = book.kept;
     } };
+
+    ghost invariant = { λ book. NothingKept (length book.places.items) (kept_by book.kept) };
 }
 
 /// Gives up the keys of each place.
@@ -64,9 +67,10 @@ impl<K: Kem> Book<K> {
         }
     }
 
-    /// How many places were met.
+    /// How many places were met. Of any other nothing is held.
     pub fn met(&self) -> usize
-        ensures { result ≡ length self.now.places }
+        ensures count { result ≡ length self.now.places }
+        ensures unmet { NothingHeld result (held self.now) }
     {
         self.places.len()
     }
@@ -91,8 +95,8 @@ impl<K: Kem> Book<K> {
         }
     }
 
-    /// Meets the next place: a member with this public key on its card, or, without one, the own place. Its ratchet is
-    /// the empty one from now on.
+    /// Meets the next place: a member with this public key on its card, or, without one, the own place. Nothing was held
+    /// of it: its ratchet is the empty one from now on.
     ///
     /// `Memory` where an allocation was refused; then the book is as before.
     pub fn meet(&mut self, alloc: Global, place: u8, public: Option<&[u8]>) -> Result<(), Memory>
@@ -100,6 +104,7 @@ impl<K: Kem> Book<K> {
         requires public { IfSome public (λ p. K.is_public p.now ≡ true) }
         requires own { IfNone public ((q : ℕ) → q < place → IsSome ((held self.old).pairing q)) }
         ensures met { OnOk result (held self.new ≡ met_with (option_map (λ p. p.now) public.entry) (held self.old)) }
+        ensures unmet { NothingHeld place (held self.old) }
         ensures unchanged { OnErr result (self.new ≡ self.old) }
     {
         self.places.reserve(1)?;

@@ -2,8 +2,8 @@ use Rattle.std.proofs.Common.{◌∙◌, ap, sym}
 use Rattle.std.specs.Option.{option_and_then}
 use Rattle.member_book.specs.PairStates.{after_send}
 use Rattle.secret_book.specs.HeldBooks.{part_from}
-use Rattle.secret_book.proofs.Outcomes.{ok-map}
-use Rattle.secret_book.proofs.PlaceTables.{reads-pairing, after-pairing}
+use Rattle.secret_book.proofs.Outcomes.{ok-map, err-map}
+use Rattle.secret_book.proofs.PlaceTables.{reads-pairing, after-pairing, after-none}
 use Rattle.secret_book.proofs.book.Book.seal_to.Goals as goal
 
 pub seal-requires-clause-pairing : goal.seal-requires-clause-pairing
@@ -23,3 +23,7 @@ pub returns-clause-sent : goal.returns-clause-sent
 returns-clause-sent g c = ok-map c.seal.result
     (λ bytes e. after-pairing _ _ c.self.view_is _ _ c.requires.met c.index_mut.ensures.value _ (λ k. after_send k c.args.draw) e)
     c.seal.ensures.row
+
+pub returns-clause-unchanged : goal.returns-clause-unchanged
+returns-clause-unchanged g c = err-map c.seal.result
+    (λ e. after-none _ _ c.self.view_is _ _ _ c.index_mut.ensures.value e) c.seal.ensures.unchanged
