@@ -1,5 +1,6 @@
 //! Parts of two-party messaging with Sntrup761: what is drawn for them, parts sent by one side, and these taken by the
 //! other. Each work does what the one before does and one thing more, so that a difference of two works is this thing.
+//! In the last the sides take turns, with the same draws: so it is to be compared with the parts that are only sent.
 
 use crate::kems::{pair_of, public_of};
 use group_fields::{Bytes, Digest as Id, MemberId};
@@ -7,6 +8,7 @@ use kem_trait::{Kem, KemRefusal};
 use ntru_prime::{Sntrup761, TestedPair};
 use sha2::{Digest, Sha256};
 use std::alloc::{AllocError, Global};
+use std::mem::swap;
 use two_party::{Pairing, PartDraw, draw_parts};
 
 /// The member that parts are drawn for.
@@ -53,6 +55,24 @@ pub(crate) fn receive(alloc: Global, count: u32) -> Result<[u8; 32], AllocError>
         seed = Sha256::digest(seed.as_slice());
         part = send_next(alloc, &mut sender, &seed, &part)?;
         payload = take(alloc, &mut receiver, &part)?;
+    }
+    Ok(Sha256::digest(payload.as_slice()))
+}
+
+/// Parts with the same draws, sent by the two sides in turns, each taken by the other before that sends the next. So each
+/// is sealed to an own key of the side that takes it.
+pub(crate) fn answer(alloc: Global, count: u32) -> Result<[u8; 32], AllocError> {
+    let Some((mut sender, mut receiver)) = sides(alloc)? else {
+        return Ok([0; 32]);
+    };
+    let mut seed = [0u8; 32];
+    let mut part = None;
+    let mut payload = [0u8; 32];
+    for _ in 0..count {
+        seed = Sha256::digest(seed.as_slice());
+        part = send_next(alloc, &mut sender, &seed, &part)?;
+        payload = take(alloc, &mut receiver, &part)?;
+        swap(&mut sender, &mut receiver);
     }
     Ok(Sha256::digest(payload.as_slice()))
 }

@@ -50,6 +50,8 @@ pub enum Work {
     SendPart,
     /// The same, and the part taken by the other side.
     ReceivePart,
+    /// What is drawn for a part, and the part sent to an own key of the other side, and taken there.
+    AnswerPart,
 }
 
 /// How many coefficients a polynomial has.
@@ -77,6 +79,7 @@ impl Work {
             "draw-part" => Some(Work::DrawPart),
             "send-part" => Some(Work::SendPart),
             "receive-part" => Some(Work::ReceivePart),
+            "answer-part" => Some(Work::AnswerPart),
             _ => None,
         }
     }
@@ -102,6 +105,7 @@ impl Work {
             Work::DrawPart => parts::draw(alloc, count),
             Work::SendPart => parts::send(alloc, count),
             Work::ReceivePart => parts::receive(alloc, count),
+            Work::AnswerPart => parts::answer(alloc, count),
         }
     }
 }
