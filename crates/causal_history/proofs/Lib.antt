@@ -1,0 +1,12 @@
+pub mod BitFacts
+pub mod ListMore
+pub mod IndexFacts
+pub mod TableFacts
+pub mod RowFacts
+pub mod AnswerFacts
+pub mod PushFacts
+pub mod PushTests
+pub mod LawFacts
+pub mod SpelledFacts
+pub mod Numbers
+pub mod HeadMarks
