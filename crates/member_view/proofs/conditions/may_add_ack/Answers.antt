@@ -1,0 +1,25 @@
+use Rattle.std.proofs.Common.{◌≡◌, true, false, refl}
+use Rattle.causal_history.specs.Bits.{mark}
+use Rattle.causal_history.specs.Rows.{history_of}
+use Rattle.member_view.proofs.KindLaws.{both-ways, add_ack-missing, add_ack-unmarked, add_ack-row}
+use Rattle.member_view.proofs.conditions.may_add_ack.Goals as goal
+
+pub returns-in-None : goal.returns-in-None
+returns-in-None c = (
+  λ t. add_ack-missing (history_of c.args.history.now) (mark c.args.of.now) c.args.author.now.id.0.0 c.args.operation.now.0.0 c.in-None.ensures.number,
+  λ k. refl,
+)
+
+pub returns-then-not-has : goal.returns-then-not-has
+returns-then-not-has c = let n = c.in-Some.ensures.number in let t = c.if-not-has.true in let e = c.has.ensures in (
+  λ y. add_ack-unmarked (history_of c.args.history.now) c.find.ensures.kept.history (mark c.args.of.now) c.args.author.now.id.0.0
+      c.args.operation.now.0.0 c.in-Some.index n.by n.number n.has_id (let f : mark c.args.of.now c.in-Some.index ≡ false = cc in f),
+  λ k. rw t refl,
+)
+
+pub returns-else-not-has : goal.returns-else-not-has
+returns-else-not-has c = let n = c.in-Some.ensures.number in let t = c.if-not-has.false in let e = c.has.ensures in
+    let f : mark c.args.of.now c.in-Some.index ≡ true = cc in
+    both-ways (c.suits_add_ack.ensures n.by n.number)
+    (add_ack-row (history_of c.args.history.now) c.find.ensures.kept.history (mark c.args.of.now) c.args.author.now.id.0.0
+    c.args.operation.now.0.0 c.in-Some.index n.by n.number n.has_id f)
