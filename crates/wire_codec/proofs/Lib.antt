@@ -1,0 +1,12 @@
+pub mod BodyKinds
+pub mod CardBytes
+pub mod Checks
+pub mod InOrder
+pub mod Joins
+pub mod ListReads
+pub mod PacketBytes
+pub mod PartBytes
+pub mod RowBytes
+pub mod Seen
+pub mod Sizes
+pub mod Walks

@@ -1,0 +1,11 @@
+use Rattle.std.proofs.Common.{◌∙◌, ap, sym, length}
+use Rattle.group_fields.specs.Cards.{card_of_sets}
+use Rattle.wire_codec.specs.Repeated.{items_in}
+use Rattle.wire_codec.proofs.ListReads.{count_is}
+use Rattle.wire_codec.proofs.cards.CardsView.count.Goals as goal
+
+pub returns : goal.returns
+returns c =
+    let inside = c.self.inside in
+    let item = card_of_sets inside.set inside.set in
+    sym (ap length (sym c.self.view_is) ∙ count_is item inside.count inside.bytes.now (items_in item inside.count inside.bytes.now) c.self.invariant.spelled)
