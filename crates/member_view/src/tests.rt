@@ -354,6 +354,16 @@ fn draw(seed: &mut u32, below: u32) -> u32 {
     if below == 0 { 0 } else { (*seed >> 16) % below }
 }
 
+// The number of a row of the group, or 0 where there is none.
+fn drawn_row(group: &Group, seed: &mut u32) -> u32 {
+    draw(seed, u32::try_from(group.rows.len()).unwrap_or(0))
+}
+
+// One of the first so many of the ids.
+fn drawn_id(ids: &[[u8; 32]], seed: &mut u32, below: u8) -> [u8; 32] {
+    id_at(ids, u8::try_from(draw(seed, below.into())).unwrap_or(0))
+}
+
 fn waits(
     alloc: Global,
     rows: &[PlainMessage],
@@ -385,9 +395,9 @@ fn answer(
 }
 
 fn drawn_act(alloc: Global, group: &Group, seed: &mut u32) -> Result<(Kind, Target), Memory> {
-    let other = id_at(group.ids.as_slice(), draw(seed, MEMBERS.into()) as u8);
-    let at = draw(seed, group.rows.len() as u32) as usize;
-    let row = group.rows.get(at).map_or([1; 32], |row| row.id);
+    let other = drawn_id(group.ids.as_slice(), seed, MEMBERS);
+    let at = drawn_row(group, seed);
+    let row = group.rows.get(at as usize).map_or([1; 32], |row| row.id);
     Ok(match draw(seed, 8) {
         0 | 1 => (Kind::Update, Target::Nothing),
         2 => (Kind::Remove, Target::Member(MemberId(Digest(other)))),
@@ -420,7 +430,7 @@ fn first_message(alloc: Global, group: &Group) -> Result<Bytes, Memory> {
 
 // The heads, or now and then one row alone.
 fn drawn_predecessors(alloc: Global, group: &Group, seed: &mut u32) -> Result<Ids, Memory> {
-    let at = draw(seed, group.rows.len() as u32);
+    let at = drawn_row(group, seed);
     if draw(seed, 4) == 0 {
         return rows_in(alloc, group, 1 << (at % 32));
     }
@@ -454,7 +464,7 @@ fn drawn_number(group: &Group, seed: &mut u32, sender: &[u8; 32]) -> u32 {
 }
 
 fn drawn(alloc: Global, group: &Group, seed: &mut u32) -> Result<Bytes, Memory> {
-    let sender = id_at(group.ids.as_slice(), draw(seed, 5) as u8);
+    let sender = drawn_id(group.ids.as_slice(), seed, 5);
     let seq = drawn_number(group, seed, &sender);
     let before = drawn_predecessors(alloc, group, seed)?;
     let (kind, target) = drawn_or_due(alloc, group, seed, &sender)?;
