@@ -1,8 +1,8 @@
 //! A group of 32 members, and the headers of its first 4,000 messages, each of which follows the one before it.
 //!
-//! They are made in 125 rounds of one message of each member. An even round is an operation, the create in the first and then
-//! updates, which the others acknowledge; an odd round is texts. What has no spelling is left empty: it shows in the digest
-//! that is printed.
+//! They are made in 125 rounds of one message of each member. An even round is an operation, the create in the first
+//! and then updates, which the others acknowledge; an odd round is texts. What has no spelling is left empty: it shows
+//! in the digest that is printed.
 
 use group_fields::{
     Bytes, Card, Cards, Digest, GroupId, Header, HeaderView, Ids, Kind, MemberId, MessageId,
@@ -32,8 +32,8 @@ pub(crate) struct Member {
     pub(crate) card: Bytes,
 }
 
-/// The members in the order of their ids, the one among them whose LMS public key was given, and the bytes of the headers,
-/// oldest first.
+/// The members in the order of their ids, the one among them whose LMS public key was given, and the bytes of the
+/// headers, oldest first.
 #[derive(Drop)]
 pub(crate) struct Group {
     pub(crate) signer: MemberId,

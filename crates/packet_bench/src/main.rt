@@ -1,5 +1,5 @@
-//! Times what is done with packets: `packet_bench WORK COUNT` does the work COUNT times, and prints a digest of what came of
-//! it in hexadecimal digits, so that two builds can be compared.
+//! Times what is done with packets: `packet_bench WORK COUNT` does the work COUNT times, and prints a digest of what
+//! came of it in hexadecimal digits, so that two builds can be compared.
 #![tactic(auto)]
 
 mod group;

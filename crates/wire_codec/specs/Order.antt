@@ -61,7 +61,8 @@ pub record IsInOrder (p : Packet) : Type 0 where
 -- A create carries the cards of the members that it names, in the order of their ids; an add the card of the one that
 -- it names, one part, which is for it, and a history; a text nothing but its text.
 abbrev pub CarriesWhatSuits : Kind → Target → Body → Type 0
-CarriesWhatSuits kinds.Create target b = (card_ids b.cards ≡ members_named target) × (b.history ≡ None) × (b.text ≡ None)
+CarriesWhatSuits kinds.Create target b =
+    (card_ids b.cards ≡ members_named target) × (b.history ≡ None) × (b.text ≡ None)
 CarriesWhatSuits kinds.Update target b = (b.cards ≡ []) × (b.history ≡ None) × (b.text ≡ None)
 CarriesWhatSuits kinds.Remove target b = (b.cards ≡ []) × (b.history ≡ None) × (b.text ≡ None)
 CarriesWhatSuits kinds.Add target b =

@@ -130,7 +130,8 @@ fn take_named<'a>(
 ) -> Result<CreateView<'a>, FieldFault>
     requires within { IsIn greatest_size cursor.old }
     requires kind { header.now.kind ≡ Create }
-    ensures { Takes created (create_body header.now.set (members_named header.now.target)) cursor.old cursor.new result }
+    ensures { Takes created (create_body header.now.set (members_named header.now.target)) cursor.old cursor.new
+        result }
 {
     let _ = header.bytes();
     match header.target() {

@@ -1,4 +1,5 @@
-ghost use Rattle.std.specs.Prelude.{◌≡◌, ◌<◌, ◌≤◌, ◌+◌, ◌∷◌, [], Some, drop, length, slice_get, take, IfErr, IfOk, IfSome, IfNone};
+ghost use Rattle.std.specs.Prelude.{◌≡◌, ◌<◌, ◌≤◌, ◌+◌, ◌∷◌, [], Some, drop, length, slice_get, take};
+ghost use Rattle.std.specs.Prelude.{IfErr, IfOk, IfSome, IfNone};
 ghost use Rattle.std.specs.Int.{from_be_bytes, w16};
 ghost use Rattle.group_fields.specs.Fields.{place_of};
 ghost use Rattle.group_fields.specs.Headers.{header};
