@@ -7,6 +7,7 @@ pub mod Forwards
 pub mod Found
 pub mod Histories
 pub mod Inviters
+pub mod Judges
 pub mod OverItself
 pub mod Parts
 pub mod ReadyFacts

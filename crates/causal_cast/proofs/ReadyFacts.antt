@@ -1,5 +1,5 @@
 -- What is ready may be taken, and one verdict is the first.
-use Rattle.std.proofs.Common.{◌≡◌, inl, inr, ◌⊎◌, List, [], ◌∷◌, refl, sym, ap, subst}
+use Rattle.std.proofs.Common.{◌≡◌, inl, inr, ◌⊎◌, List, [], ◌∷◌, ◌++◌, refl, sym, ap, subst}
 use Rattle.group_model.specs.Sets.{Id, In}
 use Rattle.group_model.specs.Messages.{Message, History, past, Stands, IsHistory}
 use Rattle.group_model.specs.Membership.{Named}
@@ -11,12 +11,13 @@ use Rattle.group_model.specs.LawfulLogs.{TakesPacket}
 use Rattle.group_model.proofs.Pasts.{past-within}
 use Rattle.causal_history.specs.Rows.{history_of}
 use Rattle.group_messages.specs.Messages.{message_of}
-use Rattle.member_view.specs.Causes.{Cause, Causes, AreSingle, IsFirst, single-unless, single-when, first-one}
+use Rattle.member_view.specs.Causes.{Cause, Causes, AreSingle, IsFirst, GivesNone, single-unless, single-when}
+use Rattle.member_view.specs.Causes.{first-one, unless, when}
 use Rattle.wire_codec.specs.Packets.{Packet}
 use Rattle.causal_cast.specs.Judging.{Judging, IsSigned, inviter_by, receivers}
 use Rattle.causal_cast.specs.Taken.{IsSeenBy}
 use Rattle.causal_cast.specs.Verdicts.{verdicts, MayBeTaken, IsOfJudge, IsOfGroup, IsKnownSender, HasLeaf, SuitsKind}
-use Rattle.causal_cast.specs.Verdicts.{before}
+use Rattle.causal_cast.specs.Verdicts.{before, on_arrival, on_rules, on_limits}
 use Rattle.causal_cast.specs.declared.verdict.Verdict.{Verdict}
 use Rattle.causal_cast.specs.declared.verdict.Verdict.TheVariants as answers
 use Rattle.causal_cast.proofs.Begun.{IsBegun, begun-with, follows}
@@ -78,220 +79,88 @@ first-answer P [] all a x = absurd x
 first-answer P (c ∷ causes) all a (inl x) = all.0 a x
 first-answer P (c ∷ causes) all a (inr x) = first-answer P causes all.1 a x.1
 
+-- the first answer has the one property where a cause of the front gives it, else the other
+either-answer : {A : Type 0} (P Q : A → Type 0) (front back : Causes A) → AllAnswer P front → AllAnswer Q back → (a : A)
+    → IsFirst (front ++ back) a → P a ⊎ Q a
+either-answer P Q [] back all others a x = inr (first-answer Q back others a x)
+either-answer P Q (c ∷ front) back all others a (inl x) = inl (all.0 a x)
+either-answer P Q (c ∷ front) back all others a (inr x) = either-answer P Q front back all.1 others a x.1
+
+-- an answer that no cause of the front gives is one of the back, and no cause of the front holds
+passes-front : {A : Type 0} (P : A → Type 0) (front back : Causes A) → AllAnswer P front → (a : A) → (P a → ⊥)
+    → IsFirst (front ++ back) a → GivesNone front × IsFirst back a
+passes-front P [] back all a other x = (tt, x)
+passes-front P (c ∷ front) back all a other (inl x) = absurd (other (all.0 a x))
+passes-front P (c ∷ front) back all a other (inr x) =
+    let rest = passes-front P front back all.1 a other x.1 in
+    ((x.0, rest.0), rest.1)
+
+-- all verdicts but `Ready`, which comes last
+abbrev refusals : (J : Judging) (packet : Packet) → Causes Verdict
+refusals J packet =
+    on_arrival J packet ++ (on_rules J packet ++ (on_limits J packet
+    ++ (unless (IsSigned J.rows (message_of packet.header) packet.signature) answers.BadSignature ∷ [])))
+
+abbrev ready : Causes Verdict
+ready = when (Unit {0}) answers.Ready ∷ []
+
+-- a judge's answer other than `Ready`
+abbrev IsRefusal : Verdict → Type 0
+IsRefusal a = IsOfJudge a × (a ≡ answers.Ready → ⊥)
+
+are-refusals : (J : Judging) (packet : Packet) → AllAnswer IsRefusal (refusals J packet)
+are-refusals J packet = (
+  by answers.Out (tt, λ e. cc),
+  (
+    by answers.OtherGroup (tt, λ e. cc),
+    (
+      by answers.Known (tt, λ e. cc),
+      (
+        λ z g. is (answers.Waits g.0) (tt, λ e. cc) z g.2,
+        (
+          by answers.Stranger (tt, λ e. cc),
+          (
+            by answers.NotMember (tt, λ e. cc),
+            (
+              λ z g. is (answers.Forked g.0) (tt, λ e. cc) z g.2,
+              (
+                by answers.BadOrder (tt, λ e. cc),
+                (
+                  by answers.BadKind (tt, λ e. cc),
+                  (
+                    by (answers.HistoryFull _) (tt, λ e. cc),
+                    (by (answers.KeysSpent _) (tt, λ e. cc), (by answers.BadSignature (tt, λ e. cc), tt)),
+                  ),
+                ),
+              ),
+            ),
+          ),
+        ),
+      ),
+    ),
+  ),
+)
+  where
+    is : (answer : Verdict) → IsRefusal answer → (z : Verdict) → z ≡ answer → IsRefusal z
+    is answer k z e = subst IsRefusal (sym e) k
+
+    by : {P : Type 0} (answer : Verdict) → IsRefusal answer → (z : Verdict) → P × (z ≡ answer) → IsRefusal z
+    by answer k z g = is answer k z g.1
+
 -- the answer of a judge
 pub of_judge : (J : Judging) (packet : Packet) (a : Verdict) → IsFirst (verdicts J packet) a → IsOfJudge a
 unfolding verdicts
-of_judge J packet a x =
-    first-answer IsOfJudge (verdicts J packet) (
-      by answers.Out tt,
-      (
-        by answers.OtherGroup tt,
-        (
-          by answers.Known tt,
-          (
-            λ z g. is (answers.Waits g.0) tt z g.2,
-            (
-              by answers.Stranger tt,
-              (
-                by answers.NotMember tt,
-                (
-                  λ z g. is (answers.Forked g.0) tt z g.2,
-                  (
-                    by answers.BadOrder tt,
-                    (
-                      by answers.BadKind tt,
-                      (
-                        λ z g. is _ tt z g.1,
-                        (
-                          λ z g. is _ tt z g.1,
-                          (by answers.BadSignature tt, (by answers.Ready tt, tt)),
-                        ),
-                      ),
-                    ),
-                  ),
-                ),
-              ),
-            ),
-          ),
-        ),
-      ),
-    ) a x
-  where
-    is : (answer : Verdict) → IsOfJudge answer → (z : Verdict) → z ≡ answer → IsOfJudge z
-    is answer k z e = subst IsOfJudge (sym e) k
+of_judge J packet a x = elim (either-answer IsRefusal (λ z. z ≡ answers.Ready) (refusals J packet) ready
+    (are-refusals J packet) (λ z g. g.1, tt) a x) [
+      | inl refusal ↦ refusal.0
+      | inr is ↦ subst IsOfJudge (sym is) tt
+    ]
 
-    by : {P : Type 0} (answer : Verdict) → IsOfJudge answer → (z : Verdict) → P × (z ≡ answer) → IsOfJudge z
-    by answer k z g = is answer k z g.1
-
--- nothing but the last cause gives `Ready`, so all others pass
-pub ready-may_be_taken : (J : Judging) (packet : Packet) → IsHistory (history_of J.rows)
-    → IsFirst (verdicts J packet) answers.Ready → MayBeTaken J packet
-unfolding verdicts
-ready-may_be_taken J packet g (inl a) = absurd (let e : answers.Ready ≡ answers.Out = a.1 in cc)
-ready-may_be_taken J packet g (inr (member, inl a)) =
-    absurd (let e : answers.Ready ≡ answers.OtherGroup = a.1 in cc)
-ready-may_be_taken J packet g (inr (member, inr (group, inl a))) =
-    absurd (let e : answers.Ready ≡ answers.Known = a.1 in cc)
-ready-may_be_taken J packet g (inr (member, inr (group, inr (new, inl a)))) =
-    absurd (let e : answers.Ready ≡ answers.Waits a.0 = a.2 in cc)
-ready-may_be_taken J packet g (inr (member, inr (group, inr (new, inr (stand, inl a))))) =
-    absurd (let e : answers.Ready ≡ answers.Stranger = a.1 in cc)
-ready-may_be_taken J packet g (inr (member, inr (group, inr (new, inr (stand, inr (known, inl a)))))) =
-    absurd (let e : answers.Ready ≡ answers.NotMember = a.1 in cc)
-ready-may_be_taken J packet g (inr (member, inr (group, inr (new, inr (stand, inr (known, inr (current, inl a))))))) =
-    absurd (let e : answers.Ready ≡ answers.Forked a.0 = a.2 in cc)
-ready-may_be_taken J packet g
-    (inr (member, inr (group, inr (new, inr (stand, inr (known, inr (current, inr (alone, inl a)))))))) =
-    absurd (let e : answers.Ready ≡ answers.BadOrder = a.1 in cc)
-ready-may_be_taken J packet g
-    (inr (member, inr (group, inr (new, inr (stand, inr (known, inr (current, inr (alone, inr (order, inl a))))))))) =
-    absurd (let e : answers.Ready ≡ answers.BadKind = a.1 in cc)
-ready-may_be_taken J packet g
-    (inr (
-      member,
-      inr (
-        group,
-        inr (
-          new,
-          inr (
-            stand,
-            inr (
-              known,
-              inr (
-                current,
-                inr (
-                  alone,
-                  inr (
-                    order,
-                    inr (kind, inl a),
-                  ),
-                ),
-              ),
-            ),
-          ),
-        ),
-      ),
-    )) =
-    absurd (let e : answers.Ready ≡ answers.HistoryFull _ = a.1 in cc)
-ready-may_be_taken J packet g
-    (inr (
-      member,
-      inr (
-        group,
-        inr (
-          new,
-          inr (
-            stand,
-            inr (
-              known,
-              inr (
-                current,
-                inr (
-                  alone,
-                  inr (
-                    order,
-                    inr (
-                      kind,
-                      inr (limits, inl a),
-                    ),
-                  ),
-                ),
-              ),
-            ),
-          ),
-        ),
-      ),
-    )) =
-    absurd (let e : answers.Ready ≡ answers.KeysSpent _ = a.1 in cc)
-ready-may_be_taken J packet g
-    (inr (
-      member,
-      inr (
-        group,
-        inr (
-          new,
-          inr (
-            stand,
-            inr (
-              known,
-              inr (
-                current,
-                inr (
-                  alone,
-                  inr (
-                    order,
-                    inr (
-                      kind,
-                      inr (limits, inr (leaf, inl a)),
-                    ),
-                  ),
-                ),
-              ),
-            ),
-          ),
-        ),
-      ),
-    )) =
-    absurd (let e : answers.Ready ≡ answers.BadSignature = a.1 in cc)
-ready-may_be_taken J packet g
-    (inr (
-      member,
-      inr (
-        group,
-        inr (
-          new,
-          inr (
-            stand,
-            inr (
-              known,
-              inr (
-                current,
-                inr (
-                  alone,
-                  inr (
-                    order,
-                    inr (
-                      kind,
-                      inr (limits, inr (leaf, inr (signed, inr x))),
-                    ),
-                  ),
-                ),
-              ),
-            ),
-          ),
-        ),
-      ),
-    )) =
-    absurd x.1
-ready-may_be_taken J packet g
-    (inr (
-      member,
-      inr (
-        group,
-        inr (
-          new,
-          inr (
-            stand,
-            inr (
-              known,
-              inr (
-                current,
-                inr (
-                  alone,
-                  inr (
-                    order,
-                    inr (
-                      kind,
-                      inr (limits, inr (leaf, inr (signed, inl x))),
-                    ),
-                  ),
-                ),
-              ),
-            ),
-          ),
-        ),
-      ),
-    )) =
+-- what no refusal holds of may be taken
+unrefused-may_be_taken : (J : Judging) (packet : Packet) → IsHistory (history_of J.rows) → GivesNone (refusals J packet)
+    → MayBeTaken J packet
+unrefused-may_be_taken J packet g
+    (member, (group, (new, (stand, (known, (current, (alone, (order, (kind, (limits, (leaf, (signed, none)))))))))))) =
     let h = history_of J.rows in
     let m = message_of packet.header in
     record {
@@ -316,6 +185,14 @@ ready-may_be_taken J packet g
       leaf = leaf;
       signed = signed;
     }
+
+pub ready-may_be_taken : (J : Judging) (packet : Packet) → IsHistory (history_of J.rows)
+    → IsFirst (verdicts J packet) answers.Ready → MayBeTaken J packet
+unfolding verdicts
+ready-may_be_taken J packet g x =
+    unrefused-may_be_taken J packet g
+    (passes-front IsRefusal (refusals J packet) ready (are-refusals J packet) answers.Ready (λ refusal. refusal.1 refl)
+    x).0
 
 -- the owner of a log may take it
 pub taken-lawful : (J : Judging) (packet : Packet) (O : Owner) (l : Log) (p : model.Packet) → MayBeTaken J packet

@@ -4,8 +4,8 @@ use Rattle.group_messages.specs.Messages.{message_of}
 use Rattle.causal_history.specs.Rows.{history_of}
 use Rattle.member_view.specs.Causes.{IsFirst, GivesNone}
 use Rattle.member_view.specs.Rules.{rule_causes}
-use Rattle.causal_cast.specs.Judging.{Judging}
 use Rattle.causal_cast.specs.Verdicts.{on_rules as by_rules}
+use Rattle.causal_cast.proofs.Judges.{judge_of}
 use Rattle.causal_cast.proofs.RuleStage.{fault-stage, none-stage, unsuited-stage}
 use Rattle.causal_cast.proofs.rules.on_rules.Goals as goal
 
@@ -14,14 +14,7 @@ returns-in-Some g c = λ x leaf_left at.
     let packet = c.args.packet.now in
     let h = history_of c.args.history.now in
     let rule = g.G.Membership.rule in
-    let J : Judging = record {
-      rule = rule;
-      set = g.K.Kem.SET;
-      is_public = g.K.Kem.is_public;
-      rows = c.args.history.now;
-      me = x;
-      leaf_left = leaf_left;
-    } in
+    let J = judge_of rule g.K.Kem.SET g.K.Kem.is_public c.args.history.now x leaf_left in
     let other : (message_of packet.header).sender ≢ x = λ e.
     let own : false ≡ true = (c.if-is_own.ensures x at).1
     (subst (λ (z : Header). z.sender.0.0 ≡ x) (sym c.header-header.ensures) e) in absurd cc in
@@ -35,14 +28,7 @@ returns-then-suits_kind g c = λ x leaf_left at.
     let packet = c.args.packet.now in
     let h = history_of c.args.history.now in
     let rule = g.G.Membership.rule in
-    let J : Judging = record {
-      rule = rule;
-      set = g.K.Kem.SET;
-      is_public = g.K.Kem.is_public;
-      rows = c.args.history.now;
-      me = x;
-      leaf_left = leaf_left;
-    } in
+    let J = judge_of rule g.K.Kem.SET g.K.Kem.is_public c.args.history.now x leaf_left in
     let other : (message_of packet.header).sender ≢ x = λ e.
     let own : false ≡ true = (c.if-is_own.ensures x at).1
     (subst (λ (z : Header). z.sender.0.0 ≡ x) (sym c.header-header.ensures) e) in absurd cc in
@@ -55,14 +41,7 @@ returns-else-suits_kind g c = λ x leaf_left at.
     let packet = c.args.packet.now in
     let h = history_of c.args.history.now in
     let rule = g.G.Membership.rule in
-    let J : Judging = record {
-      rule = rule;
-      set = g.K.Kem.SET;
-      is_public = g.K.Kem.is_public;
-      rows = c.args.history.now;
-      me = x;
-      leaf_left = leaf_left;
-    } in
+    let J = judge_of rule g.K.Kem.SET g.K.Kem.is_public c.args.history.now x leaf_left in
     let other : (message_of packet.header).sender ≢ x = λ e.
     let own : false ≡ true = (c.if-is_own.ensures x at).1
     (subst (λ (z : Header). z.sender.0.0 ≡ x) (sym c.header-header.ensures) e) in absurd cc in
