@@ -129,6 +129,10 @@ impl<K: Kem> Book<K> {
         ensures part { IfOk result (λ bytes. option_and_then (part_from ⟦<K as Kem>⟧ draw payload.now)
             ((held self.old).pairing place) ≡ Some bytes) }
         ensures sent { OnOk result (held self.new ≡ sealed_at place draw (held self.old)) }
+
+        // The number of the key that the part is sealed to is written whole.
+        ensures number { IfOk result (λ bytes.
+            IfSome ((held self.old).pairing place) (λ k. k.target.number < 2 ^ 32)) }
         ensures unchanged { OnErr result (self.new ≡ self.old) }
     {
         self.places[place as usize].seal(alloc, payload, draw)

@@ -161,6 +161,7 @@ impl<K: Kem> PlaceRow<K> {
           chain = self.old.chain;
           pairing = option_map (λ k. after_send k draw) self.old.pairing;
         }) }
+        ensures number { IfOk result (λ bytes. IfSome self.old.pairing (λ k. k.target.number < 2 ^ 32)) }
         ensures unchanged { OnErr result (self.new ≡ self.old) }
     {
         match &mut self.pairing {

@@ -140,6 +140,8 @@ impl<K: Kem> Pairing<K> {
         ensures part { IfOk result (λ bytes. option_map (part_bytes ⟦<K as Kem>⟧)
             (next_part (primitives_of ⟦<K as Kem>⟧) self.old draw payload.now) ≡ Some bytes) }
         ensures kept { IfOk result (λ bytes. self.new ≡ after_send self.old draw) }
+        // The number of the key that it is sealed to is written whole.
+        ensures number { IfOk result (λ bytes. self.old.target.number < 2 ^ 32) }
         ensures unchanged { IsErr result → self.new ≡ self.old }
     {
         let own = OwnKey::new(alloc, &draw.own)?;
