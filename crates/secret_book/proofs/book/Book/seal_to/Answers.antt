@@ -1,6 +1,7 @@
-use Rattle.std.proofs.Common.{◌∙◌, ap, sym}
+use Rattle.std.proofs.Common.{◌<◌, ◌^◌, Option, ◌∙◌, ap, subst, sym}
 use Rattle.std.specs.Option.{option_and_then}
-use Rattle.member_book.specs.PairStates.{after_send}
+use Rattle.std.specs.Prelude.{IfSome}
+use Rattle.member_book.specs.PairStates.{PairState, after_send}
 use Rattle.secret_book.specs.HeldBooks.{part_from}
 use Rattle.secret_book.proofs.Outcomes.{ok-map, err-map}
 use Rattle.secret_book.proofs.PlaceTables.{reads-pairing, after-pairing, after-none}
@@ -27,3 +28,8 @@ returns-clause-sent g c = ok-map c.seal.result
 pub returns-clause-unchanged : goal.returns-clause-unchanged
 returns-clause-unchanged g c = err-map c.seal.result
     (λ e. after-none _ _ c.self.view_is _ _ _ c.index_mut.ensures.value e) c.seal.ensures.unchanged
+
+pub returns-clause-number : goal.returns-clause-number
+returns-clause-number g c = ok-map c.seal.result
+    (λ bytes e. subst (λ (pairing : Option PairState). IfSome pairing (λ k. k.target.number < 2 ^ 32))
+    (reads-pairing _ _ c.self.view_is _ _ c.requires.met c.index_mut.ensures.value) e) c.seal.ensures.number
