@@ -1,10 +1,9 @@
 //! Whom a message sends a part to.
 
-ghost use Rattle.std.specs.Prelude.{◌≡◌, ◌↔◌, ◌∷◌, ◌&&◌, ℕ, IsTrue, MatchOption};
+ghost use Rattle.std.specs.Prelude.{◌≡◌, ◌∷◌, ◌&&◌, ℕ, MatchOption};
 ghost use Rattle.causal_history.specs.Bits.{bit};
 ghost use Rattle.causal_history.specs.Rows.{history_of};
-ghost use Rattle.group_fields.specs.declared.header.Target.{Target};
-ghost use Rattle.group_messages.specs.Messages.{kind_by, message_of};
+ghost use Rattle.group_messages.specs.Messages.{message_of};
 ghost use Rattle.group_model.specs.Sets.{Id, In};
 ghost use Rattle.group_model.specs.Messages.{Add, Stands};
 ghost use Rattle.group_model.specs.Membership.{IsAddressee, IsForwardedTo, IsHandedTo, IsSeeded, MovesNobody};
@@ -13,8 +12,8 @@ ghost use Rattle.group_model.specs.Marks.{IsCrowd};
 ghost use Rattle.member_view.specs.Crowds.{StandsWell};
 
 use causal_history::{Crowd, History};
-use group_fields::{HeaderView, Kind, MemberId, MessageId};
-use member_view::{Act, Membership, act_of, place_with, recipients, view};
+use group_fields::{HeaderView, MemberId, MessageId};
+use member_view::{Act, Membership, act_of, is_seeded, place_with, recipients, view};
 
 // The places in both crowds.
 fn both(a: Crowd, b: Crowd) -> Crowd
@@ -42,16 +41,6 @@ fn row_with<'a>(history: &'a History, id: &MessageId) -> Option<HeaderView<'a>>
     match history.find(id) {
         Some(at) => Some(history.row(at)),
         None => None,
-    }
-}
-
-// Whether a message of the kind sends a seed: a create, an update or a remove.
-fn is_seeded(kind: Kind) -> bool
-    ensures { (target : Target) → IsTrue result ↔ IsSeeded (kind_by kind target) }
-{
-    match kind {
-        Kind::Create | Kind::Update | Kind::Remove => true,
-        Kind::Add | Kind::Ack | Kind::AddAck | Kind::Text => false,
     }
 }
 

@@ -1,7 +1,9 @@
 //! What a message does, with what it is about.
 
 ghost use Rattle.std.specs.Prelude.{◌≡◌, ◌↔◌, IsTrue};
-ghost use Rattle.group_messages.specs.Messages.{header_kind, kind_of};
+ghost use Rattle.group_fields.specs.declared.header.Target.{Target};
+ghost use Rattle.group_messages.specs.Messages.{header_kind, kind_by, kind_of};
+ghost use Rattle.group_model.specs.Membership.{IsSeeded};
 ghost use Rattle.group_model.specs.Messages.{Kind as MessageKind};
 ghost use Rattle.group_model.specs.Validity.{IsOperation};
 ghost use Rattle.member_view.specs.Acts.{act_kind};
@@ -66,5 +68,15 @@ pub fn is_operation(kind: Kind) -> bool
     match kind {
         Kind::Create | Kind::Update | Kind::Remove | Kind::Add => true,
         Kind::Ack | Kind::AddAck | Kind::Text => false,
+    }
+}
+
+/// Whether a message of the kind sends a seed: a create, an update or a remove.
+pub fn is_seeded(kind: Kind) -> bool
+    ensures { (target : Target) → IsTrue result ↔ IsSeeded (kind_by kind target) }
+{
+    match kind {
+        Kind::Create | Kind::Update | Kind::Remove => true,
+        Kind::Add | Kind::Ack | Kind::AddAck | Kind::Text => false,
     }
 }

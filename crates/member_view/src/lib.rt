@@ -12,7 +12,7 @@ mod tests;
 mod views;
 mod waiting;
 
-pub use act::{Act, act_of, is_operation};
+pub use act::{Act, act_of, is_operation, is_seeded};
 pub use author::count_of_sender;
 pub use faults::{RuleFault, rules};
 pub use members::{Membership, RemoveWins};
