@@ -1,5 +1,5 @@
 -- Histories that have a message.
-use Rattle.std.proofs.Common.{◌≡◌, ℕ, ◌<◌, List, [], ◌∷◌, Option, length, refl, sym, ◌∙◌, ap, subst, arith}
+use Rattle.std.proofs.Common.{◌≡◌, ◌<◌, List, [], ◌∷◌, Option, length, refl, sym, subst, arith}
 use Rattle.group_model.specs.Sets.{Id, In}
 use Rattle.group_model.specs.Messages.{Message, History, past}
 use Rattle.group_model.specs.Validity.{GoesOn, MayFollow}

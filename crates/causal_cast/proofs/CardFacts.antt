@@ -1,18 +1,15 @@
 -- What the cards of a packet say of whom an add names.
-use Rattle.std.proofs.Common.{◌≡◌, ◌↔◌, ℕ, ◌||◌, ◌==◌, Bool, true, false, cond, inl, inr, ◌⊎◌, List, [], ◌∷◌, Option}
-use Rattle.std.proofs.Common.{Some, None, length, refl, sym}
-use Rattle.std.proofs.Common.{◌∙◌, ap, subst, map}
+use Rattle.std.proofs.Common.{◌≡◌, ◌↔◌, ℕ, Bool, true, inl, inr, List, [], ◌∷◌}
+use Rattle.std.proofs.Common.{Some, refl, sym}
+use Rattle.std.proofs.Common.{◌∙◌, ap, subst}
 use Rattle.std.specs.List.{slice_get}
-use Rattle.std.specs.Str.{bytes_eq}
 use Rattle.std.proofs.lemmas.Slice.Eq.{bytes_eq-Decides}
 use Rattle.kem_trait.specs.Lengths.{HasSetLengths}
-use Rattle.group_fields.specs.Cards as card_words
 use Rattle.group_fields.specs.Cards.{card_id, key_size}
 use Rattle.group_fields.specs.Headers.{HasSpelling}
 use Rattle.group_fields.specs.declared.card.Card.{Card}
 use Rattle.group_fields.specs.declared.header.Header.{Header}
 use Rattle.group_fields.specs.declared.header.Kind.TheVariants as kinds
-use Rattle.group_fields.specs.declared.ids.Digest.{Digest}
 use Rattle.group_model.specs.Sets.{Id}
 use Rattle.group_model.specs.Messages.{Add}
 use Rattle.group_messages.specs.Messages.{kind_of}

@@ -1,5 +1,5 @@
 -- Crowds of others: what is in both, in one and not in the other, in none, and one place alone.
-use Rattle.std.proofs.Common.{◌≡◌, ◌≢◌, ◌↔◌, ℕ, ◌<◌, Bool, true, false, not, ◌&&◌, ◌⊎◌, inl, inr, zero, suc, List, []}
+use Rattle.std.proofs.Common.{◌≡◌, ◌≢◌, ℕ, ◌<◌, Bool, true, false, not, ◌&&◌, ◌⊎◌, inl, inr, zero, suc, List, []}
 use Rattle.std.proofs.Common.{◌∷◌, length, refl, sym}
 use Rattle.std.proofs.Common.{◌∙◌, subst, nat_eq, arith}
 use Rattle.std.proofs.lemmas.Bool.Decides.{nat_tests}

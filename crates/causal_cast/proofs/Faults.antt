@@ -1,5 +1,5 @@
 -- A fault by the rules as a verdict.
-use Rattle.std.proofs.Common.{◌≡◌, ◌≢◌, inl, inr, List, [], ◌∷◌, refl, sym, ◌∙◌, ap}
+use Rattle.std.proofs.Common.{◌≡◌, ◌≢◌, inl, inr, List, [], ◌∷◌, refl, ap}
 use Rattle.group_model.specs.Sets.{Id}
 use Rattle.group_model.specs.Messages.{Message, History}
 use Rattle.group_model.specs.Validity.{IsNamedSender, IsCurrentMember, MeetsKind}

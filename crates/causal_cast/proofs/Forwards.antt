@@ -1,15 +1,14 @@
 -- Whom an ack forwards to, and whom an add-ack hands the ratchet to, once the operation is found.
-use Rattle.std.proofs.Common.{◌≡◌, ◌≢◌, ◌↔◌, ℕ, Bool, not, ◌&&◌, inl, inr, List, [], ◌∷◌, refl, sym, ◌∙◌, ap, subst}
-use Rattle.std.proofs.Common.{cond, true, false}
-use Rattle.group_model.specs.Sets.{Id, In, has}
+use Rattle.std.proofs.Common.{◌≡◌, ℕ, Bool, not, ◌&&◌, inr, List, [], ◌∷◌, refl, sym, ◌∙◌, ap, subst}
+use Rattle.group_model.specs.Sets.{Id, In}
 use Rattle.group_model.specs.Messages.{Kind, Create, Update, Remove, Add, Ack, AddAck, Text, Message, History, Stands}
 use Rattle.group_model.specs.Messages.{IsHistory}
-use Rattle.group_model.specs.Membership.{InView, IsRecipient, IsSeeded, IsForwardedTo, IsHandedTo, Names, Named}
+use Rattle.group_model.specs.Membership.{InView, IsSeeded, IsForwardedTo, IsHandedTo}
 use Rattle.group_model.specs.Membership.{with_id}
 use Rattle.group_model.specs.Membership.{joined, ids_named, named_by, MovesNobody}
 use Rattle.group_model.specs.Marks.{IsCrowd}
 use Rattle.member_view.specs.Crowds.{StandsWell}
-use Rattle.causal_cast.proofs.CrowdSets.{crowd-both, crowd-by, crowd-none, crowd-without}
+use Rattle.causal_cast.proofs.CrowdSets.{crowd-both, crowd-by, crowd-without}
 use Rattle.group_model.proofs.ListFacts.{In-has}
 use Rattle.group_model.specs.Sets.{here, there}
 use Rattle.group_model.proofs.Pasts.{same-message}

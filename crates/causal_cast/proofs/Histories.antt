@@ -1,7 +1,7 @@
 -- Rows and their history.
-use Rattle.std.proofs.Common.{◌≡◌, ◌↔◌, ℕ, ◌≤◌, ◌<◌, IsTrue, true, false, cond, List, [], ◌∷◌, ◌++◌, length, map}
+use Rattle.std.proofs.Common.{◌≡◌, ◌↔◌, ℕ, ◌≤◌, true, false, List, [], ◌∷◌, ◌++◌, length}
 use Rattle.std.proofs.Common.{reverse, refl, sym, ◌∙◌}
-use Rattle.std.proofs.Common.{ap, subst, rules, arith, Option, Some, None, length-append}
+use Rattle.std.proofs.Common.{subst, arith, Option, Some, None, length-append}
 use Rattle.std.specs.Option.{is_some, MatchOption}
 use Rattle.std.proofs.lemmas.List.{length-map, length-reverse}
 use Rattle.group_model.specs.Sets.{Id, In, has}

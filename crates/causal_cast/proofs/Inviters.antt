@@ -1,5 +1,5 @@
 -- The conditions of a kind read what cards say of the added member alone.
-use Rattle.std.proofs.Common.{◌≡◌, Option, Some, List, ◌∷◌, refl, ◌∙◌}
+use Rattle.std.proofs.Common.{◌≡◌, Option, Some, List, refl, ◌∙◌}
 use Rattle.group_model.specs.Sets.{Id}
 use Rattle.group_model.specs.Messages.{Kind, Create, Update, Remove, Add, Ack, AddAck, Text, Message, History}
 use Rattle.group_model.specs.Validity.{MeetsKind, GoesOn}

@@ -1,5 +1,5 @@
 -- What a message has over its history it has over the history with itself.
-use Rattle.std.proofs.Common.{◌≡◌, ◌↔◌, true, false, inl, inr, List, ◌∷◌, sym, ◌∙◌, ap, subst}
+use Rattle.std.proofs.Common.{◌≡◌, true, false, inl, inr, List, ◌∷◌, sym, ◌∙◌, ap, subst}
 use Rattle.group_model.specs.Sets.{Id, In, there}
 use Rattle.group_model.specs.Messages.{Kind, Create, Update, Remove, Add, Ack, AddAck, Text, Message, History}
 use Rattle.group_model.specs.Messages.{IsHistory}

@@ -1,9 +1,7 @@
 -- What is ready may be taken, and one verdict is the first.
-use Rattle.std.proofs.Common.{◌≡◌, inl, inr, ◌⊎◌, List, [], ◌∷◌, ◌++◌, refl, sym, ap, subst}
-use Rattle.group_model.specs.Sets.{Id, In}
-use Rattle.group_model.specs.Messages.{Message, History, past, Stands, IsHistory}
-use Rattle.group_model.specs.Membership.{Named}
-use Rattle.group_model.specs.Validity.{GoesOn}
+use Rattle.std.proofs.Common.{◌≡◌, inl, inr, ◌⊎◌, [], ◌∷◌, ◌++◌, refl, sym, subst}
+use Rattle.group_model.specs.Sets.{In}
+use Rattle.group_model.specs.Messages.{IsHistory}
 use Rattle.group_model.specs.Packets as model
 use Rattle.group_model.specs.Settings.{Owner}
 use Rattle.group_model.specs.Logs.{Log}
@@ -11,16 +9,16 @@ use Rattle.group_model.specs.LawfulLogs.{TakesPacket}
 use Rattle.group_model.proofs.Pasts.{past-within}
 use Rattle.causal_history.specs.Rows.{history_of}
 use Rattle.group_messages.specs.Messages.{message_of}
-use Rattle.member_view.specs.Causes.{Cause, Causes, AreSingle, IsFirst, GivesNone, single-unless, single-when}
+use Rattle.member_view.specs.Causes.{Causes, AreSingle, IsFirst, GivesNone, single-unless, single-when}
 use Rattle.member_view.specs.Causes.{first-one, unless, when}
 use Rattle.wire_codec.specs.Packets.{Packet}
 use Rattle.causal_cast.specs.Judging.{Judging, IsSigned, inviter_by, receivers}
 use Rattle.causal_cast.specs.Taken.{IsSeenBy}
-use Rattle.causal_cast.specs.Verdicts.{verdicts, MayBeTaken, IsOfJudge, IsOfGroup, IsKnownSender, HasLeaf, SuitsKind}
-use Rattle.causal_cast.specs.Verdicts.{before, on_arrival, on_rules, on_limits}
+use Rattle.causal_cast.specs.Verdicts.{verdicts, MayBeTaken, IsOfJudge}
+use Rattle.causal_cast.specs.Verdicts.{on_arrival, on_rules, on_limits}
 use Rattle.causal_cast.specs.declared.verdict.Verdict.{Verdict}
 use Rattle.causal_cast.specs.declared.verdict.Verdict.TheVariants as answers
-use Rattle.causal_cast.proofs.Begun.{IsBegun, begun-with, follows}
+use Rattle.causal_cast.proofs.Begun.{begun-with, follows}
 use Rattle.causal_cast.proofs.Singles.{single-missing, single-fork}
 use Rattle.causal_cast.proofs.Taking.{takes-next}
 

@@ -2,7 +2,6 @@
 use Rattle.std.proofs.Common.{◌≡◌, ℕ, Bool, true, false, inl, inr, List, ◌∷◌, refl, sym, ◌∙◌, subst}
 use Rattle.group_model.specs.Sets.{Id, In, here, Within, IsAscending}
 use Rattle.group_model.specs.Messages.{Kind, Create, Update, Remove, Add, Ack, AddAck, Text, Message, History}
-use Rattle.group_model.specs.Messages.{IsHistory}
 use Rattle.group_model.specs.Messages.{with_past}
 use Rattle.group_model.specs.Membership.{IsMembershipRule, Names, InView, IsAddressee, AreAddressees, ids_named}
 use Rattle.group_model.specs.Marks.{IsCrowd}

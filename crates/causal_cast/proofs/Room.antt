@@ -1,5 +1,5 @@
 -- The limits by numbers.
-use Rattle.std.proofs.Common.{◌≡◌, ◌↔◌, ℕ, ◌+◌, ◌≤◌, Bool, true, false, if◌then◌else◌, List, [], ◌∷◌, length, refl, sym}
+use Rattle.std.proofs.Common.{◌≡◌, ◌↔◌, ◌+◌, ◌≤◌, Bool, true, false, if◌then◌else◌, List, ◌∷◌, length, refl}
 use Rattle.std.proofs.Common.{arith}
 use Rattle.group_model.specs.Sets.{Id}
 use Rattle.group_model.specs.Messages.{Message, History}

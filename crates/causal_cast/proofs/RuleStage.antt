@@ -1,7 +1,7 @@
 -- The verdicts by the rules of validity.
-use Rattle.std.proofs.Common.{◌≡◌, ◌≢◌, ◌<◌, List, Option, Some, length, refl, subst}
+use Rattle.std.proofs.Common.{◌≡◌, ◌≢◌, ◌<◌, List, Option, Some, length, subst}
 use Rattle.group_model.specs.Sets.{Id}
-use Rattle.group_model.specs.Messages.{Kind, Create, Update, Remove, Add, Ack, AddAck, Text, Message, History, past}
+use Rattle.group_model.specs.Messages.{Kind, Add, Message, History, past}
 use Rattle.group_model.specs.Validity.{MeetsKind, SendsParts}
 use Rattle.group_messages.specs.Messages.{message_of}
 use Rattle.causal_history.specs.Rows.{history_of}

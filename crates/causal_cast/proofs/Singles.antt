@@ -1,5 +1,5 @@
 -- Each verdict carries one value.
-use Rattle.std.proofs.Common.{◌≡◌, ℕ, ◌≤◌, ◌⊎◌, inl, inr, List, refl, sym, ◌∙◌, ap, subst, arith}
+use Rattle.std.proofs.Common.{◌≡◌, ℕ, ◌≤◌, inl, inr, List, sym, ◌∙◌, ap, subst, arith}
 use Rattle.group_fields.specs.declared.ids.Digest.{Digest}
 use Rattle.group_fields.specs.declared.ids.MessageId.{MessageId}
 use Rattle.group_model.specs.Sets.{Id, In}

@@ -1,5 +1,5 @@
 -- The parts suit exactly where the places of those that they are for are the addressees.
-use Rattle.std.proofs.Common.{◌≡◌, ◌↔◌, ℕ, Bool, true, false, List, ◌∷◌, Option, Some, None, refl, sym, ◌∙◌, ap, subst}
+use Rattle.std.proofs.Common.{◌≡◌, ◌↔◌, ℕ, Bool, true, List, ◌∷◌, refl}
 use Rattle.group_model.specs.Sets.{Id, In, IsAscending}
 use Rattle.group_model.specs.Messages.{Kind, Create, Update, Remove, Add, Ack, AddAck, Text, Message, History, Stands}
 use Rattle.group_model.specs.Messages.{IsHistory}

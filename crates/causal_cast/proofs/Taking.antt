@@ -1,9 +1,9 @@
 -- What may follow a history is what a lawful log may take.
-use Rattle.std.proofs.Common.{◌≡◌, ◌≢◌, true, false, List, [], ◌∷◌, Option, Some, None, map, refl, sym, ◌∙◌}
+use Rattle.std.proofs.Common.{◌≡◌, ◌≢◌, List, [], ◌∷◌, Option, Some, None, map, sym, ◌∙◌}
 use Rattle.std.proofs.Common.{ap, subst}
 use Rattle.std.proofs.lemmas.Slice.Eq.{bytes_eq-Decides}
 use Rattle.std.specs.Str.{bytes_eq}
-use Rattle.group_model.specs.Sets.{Id, In, here, there}
+use Rattle.group_model.specs.Sets.{Id, In, there}
 use Rattle.group_model.specs.Messages.{Add, Message, History, past, IsHistory}
 use Rattle.group_model.specs.Validity.{MayFollow, IsUnforked, SendsParts}
 use Rattle.group_model.specs.Pairing.{Part}

@@ -1,6 +1,5 @@
 -- The verdicts on a packet, in order. docs/GROUP.md, "Verdicts".
-use Rattle.std.specs.Prelude.{◌≡◌, ◌≢◌, List, [], ◌∷◌, ◌++◌, length, Some, true}
-use Rattle.group_fields.specs.declared.ids.MessageId.{MessageId}
+use Rattle.std.specs.Prelude.{◌≡◌, ◌≢◌, [], ◌∷◌, ◌++◌, length, Some, true}
 use Rattle.group_messages.specs.Messages.{message_of}
 use Rattle.group_model.specs.Sets.{Id, In}
 use Rattle.group_model.specs.Messages.{Message, History, Stands, IsHistory, past}
@@ -98,9 +97,13 @@ module _ (J : Judging) (packet : Packet) where
       ∷ when (Unit {0}) answers.Ready
       ∷ []
 
+  -- the verdicts on a message that is new, and whose predecessors are there
+  abbrev pub from_rules : Causes Verdict
+  from_rules = on_rules ++ (on_limits ++ on_signature)
+
   -- all verdicts of a member that was taken into a group, in order
   unfoldable pub verdicts : Causes Verdict
-  verdicts = on_arrival ++ (on_rules ++ (on_limits ++ on_signature))
+  verdicts = on_arrival ++ from_rules
 
   -- what holds of a packet that is ready
   pub record MayBeTaken : Type 0 where

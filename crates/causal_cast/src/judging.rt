@@ -3,12 +3,13 @@
 ghost use Rattle.std.specs.Prelude.{◌≡◌, ◌↔◌, ◌<◌, IsTrue, Some, length};
 ghost use Rattle.causal_history.specs.Rows.{history_of};
 ghost use Rattle.group_messages.specs.Messages.{message_of};
-ghost use Rattle.group_model.specs.Sets.{Id};
+ghost use Rattle.group_model.specs.Sets.{Id, In};
+ghost use Rattle.group_model.specs.Messages.{Stands};
 ghost use Rattle.group_model.specs.Membership.{ids_named};
 ghost use Rattle.group_model.specs.Marks.{IsPlace};
 ghost use Rattle.member_view.specs.Causes.{IsFirst};
 ghost use Rattle.causal_cast.specs.Judging.{IsSigned, set_of};
-ghost use Rattle.causal_cast.specs.Verdicts.{verdicts};
+ghost use Rattle.causal_cast.specs.Verdicts.{from_rules, verdicts};
 
 use crate::arriving::on_arrival;
 use crate::limits::on_limits;
@@ -16,6 +17,7 @@ use crate::rules::on_rules;
 use crate::signed::is_signed_under;
 use crate::verdict::Verdict;
 use causal_history::History;
+use group_fields::MemberId;
 use kem_trait::Kem;
 use member_view::Membership;
 use wire_codec::PacketView;
@@ -29,6 +31,44 @@ fn is_signed(history: &History, packet: &PacketView<'_>) -> bool
     match history.place(&header.sender()) {
         None => false,
         Some(place) => is_signed_under(&history.card(place), &header, packet.signature()),
+    }
+}
+
+/// The first verdict on a message that is new to the history and whose predecessors are there, for a member that need
+/// not be named yet, where `leaf_left` says whether it has a leaf left to sign one more message with: by the rules of
+/// validity, by the limits, and by the signature. It takes no memory and keeps nothing.
+///
+/// The history has a row, and the message the set of the key encapsulation.
+pub fn judge_message<K: Kem, G: Membership>(
+    history: &History,
+    me: &MemberId,
+    leaf_left: bool,
+    packet: &PacketView<'_>,
+) -> Verdict
+    requires row { 0 < length history.now }
+    requires set { packet.now.header.set ≡ K.SET }
+    requires stand { (i : Id) → In i (message_of packet.now.header).predecessors
+        → Stands (history_of history.now) i }
+    requires new { Stands (history_of history.now) (message_of packet.now.header).id → ⊥ }
+    ensures { IsFirst (from_rules (record {
+      rule = G.rule;
+      set = K.SET;
+      is_public = K.is_public;
+      rows = history.now;
+      me = me.now.0.0;
+      leaf_left = leaf_left;
+    }) packet.now) result }
+{
+    if let Some(verdict) = on_rules::<K, G>(history, me, packet) {
+        return verdict;
+    }
+    if let Some(verdict) = on_limits::<K, G>(history, me, leaf_left, packet) {
+        return verdict;
+    }
+    if is_signed(history, packet) {
+        Verdict::Ready
+    } else {
+        Verdict::BadSignature
     }
 }
 
@@ -58,15 +98,5 @@ pub fn judge<K: Kem, G: Membership>(
     if let Some(verdict) = on_arrival::<K, G>(history, me, packet) {
         return verdict;
     }
-    if let Some(verdict) = on_rules::<K, G>(history, me, packet) {
-        return verdict;
-    }
-    if let Some(verdict) = on_limits::<K, G>(history, leaf_left, me, packet) {
-        return verdict;
-    }
-    if is_signed(history, packet) {
-        Verdict::Ready
-    } else {
-        Verdict::BadSignature
-    }
+    judge_message::<K, G>(history, &history.member(me), leaf_left, packet)
 }

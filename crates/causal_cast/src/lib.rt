@@ -12,7 +12,7 @@ mod signed;
 mod verdict;
 
 pub use arriving::set_of;
-pub use judging::judge;
+pub use judging::{judge, judge_message};
 pub use laws::{addressees_are_of_the_past, verdicts_are_one, what_is_ready_may_be_taken};
 pub use limits::needs_answer;
 pub use sending::addressees;

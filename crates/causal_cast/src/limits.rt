@@ -1,22 +1,21 @@
 //! Whether there is room for a message and for the answer to it.
 
-ghost use Rattle.std.specs.Prelude.{◌≡◌, ◌↔◌, ◌∷◌, ◌+◌, ◌≤◌, ◌<◌, ℕ, List, IsTrue, MatchOption, if◌then◌else◌, length};
+ghost use Rattle.std.specs.Prelude.{◌≡◌, ◌↔◌, ◌∷◌, ◌+◌, ◌≤◌, ℕ, List, IsTrue, MatchOption, if◌then◌else◌, length};
 ghost use Rattle.causal_history.specs.Rows.{history_of};
 ghost use Rattle.group_messages.specs.Messages.{message_of};
 ghost use Rattle.group_model.specs.Sets.{Id, In};
 ghost use Rattle.group_model.specs.Messages.{Create, Stands};
 ghost use Rattle.group_model.specs.Membership.{ids_named};
 ghost use Rattle.group_model.specs.Validity.{NeedsAnswer};
-ghost use Rattle.group_model.specs.Marks.{IsPlace};
 ghost use Rattle.member_view.specs.Causes.{GivesNone, IsFirst};
 ghost use Rattle.member_view.specs.Crowds.{StandsWell};
 ghost use Rattle.causal_cast.specs.Verdicts.{on_limits as limits};
 
 use crate::verdict::Verdict;
 use causal_history::{History, Marks};
-use group_fields::HeaderView;
+use group_fields::{HeaderView, MemberId};
 use kem_trait::Kem;
-use member_view::{Act, Membership, act_of, count_of_sender, is_operation};
+use member_view::{Act, Membership, act_of, count_of_sender, is_operation, place_with};
 use wire_codec::PacketView;
 
 // The most messages that a history may have, and the most ids that it may name.
@@ -24,39 +23,38 @@ const MESSAGES: u32 = 4096;
 
 const PLACES: u8 = 32;
 
-// Whether the member at a place is one by all rows of the history and the message of the header.
-fn is_member_with<G: Membership>(history: &History, me: u8, header: &HeaderView<'_>) -> bool
-    requires place { me < length (ids_named (history_of history.now)) }
-    requires create { StandsWell (history_of history.now) (message_of header.now) (message_of header.now).kind }
-    ensures { (x : Id) → IsPlace (ids_named (history_of history.now)) me x
-        → IsTrue result ↔ In x (G.rule (message_of header.now ∷ history_of history.now)) }
+// Whether a member is one by all rows of the history and the message of the header.
+fn is_member_with<G: Membership>(history: &History, me: &MemberId, header: &HeaderView<'_>) -> bool
+    requires { StandsWell (history_of history.now) (message_of header.now) (message_of header.now).kind }
+    ensures { IsTrue result ↔ In me.now.0.0 (G.rule (message_of header.now ∷ history_of history.now)) }
 {
     let mut all = Marks::new();
     history.mark_all(&mut all);
-    let _places = history.places();
-    G::members(history, &all, Some(header)).has(me)
+    let members = G::members(history, &all, Some(header));
+    match place_with(history, Some(header), me) {
+        None => false,
+        Some(place) => members.has(place),
+    }
 }
 
-// Whether the message of the header is that of the member at a place.
-pub(crate) fn is_own(history: &History, me: u8, header: &HeaderView<'_>) -> bool
-    requires { me < length (ids_named (history_of history.now)) }
-    ensures { (x : Id) → IsPlace (ids_named (history_of history.now)) me x
-        → IsTrue result ↔ ((message_of header.now).sender ≡ x) }
+// Whether the message of the header is the member's own.
+pub(crate) fn is_own(me: &MemberId, header: &HeaderView<'_>) -> bool
+    ensures { IsTrue result ↔ ((message_of header.now).sender ≡ me.now.0.0) }
 {
-    history.member(me) == header.sender()
+    header.sender() == *me
 }
 
-/// Whether the member at a place answers the message of the header in the step that takes it: an operation of another,
-/// with which it is a member. It takes no memory. A create stands over the empty history or is a row of it.
-pub fn needs_answer<G: Membership>(history: &History, me: u8, header: &HeaderView<'_>) -> bool
-    requires place { me < length (ids_named (history_of history.now)) }
-    requires create { StandsWell (history_of history.now) (message_of header.now) (message_of header.now).kind }
-    ensures { (x : Id) → IsPlace (ids_named (history_of history.now)) me x
-        → IsTrue result ↔ NeedsAnswer G.rule x (history_of history.now) (message_of header.now) }
+/// Whether a member answers the message of the header in the step that takes it: an operation of another, with which it
+/// is a member. It takes no memory. A create stands over the empty history or is a row of it.
+pub fn needs_answer<G: Membership>(
+    history: &History,
+    me: &MemberId,
+    header: &HeaderView<'_>,
+) -> bool
+    requires { StandsWell (history_of history.now) (message_of header.now) (message_of header.now).kind }
+    ensures { IsTrue result ↔ NeedsAnswer G.rule me.now.0.0 (history_of history.now) (message_of header.now) }
 {
-    is_operation(header.kind())
-        && !is_own(history, me, header)
-        && is_member_with::<G>(history, me, header)
+    is_operation(header.kind()) && !is_own(me, header) && is_member_with::<G>(history, me, header)
 }
 
 // Whether the history has places for whom the message of the header names besides. It is no create.
@@ -91,21 +89,19 @@ fn is_within(history: &History, header: &HeaderView<'_>, answers: bool) -> bool
 // The first verdict by the limits, where one holds.
 pub(crate) fn on_limits<K: Kem, G: Membership>(
     history: &History,
+    me: &MemberId,
     leaf_left: bool,
-    me: u8,
     packet: &PacketView<'_>,
 ) -> Option<Verdict>
-    requires place { me < length (ids_named (history_of history.now)) }
-    requires create { (members : List Id) → (message_of packet.now.header).kind ≡ Create members → ⊥ }
-    ensures { (x : Id) → IsPlace (ids_named (history_of history.now)) me x
-        → let causes = limits (record {
-          rule = G.rule;
-          set = K.SET;
-          is_public = K.is_public;
-          rows = history.now;
-          me = x;
-          leaf_left = leaf_left;
-        }) packet.now in
+    requires { (members : List Id) → (message_of packet.now.header).kind ≡ Create members → ⊥ }
+    ensures { let causes = limits (record {
+      rule = G.rule;
+      set = K.SET;
+      is_public = K.is_public;
+      rows = history.now;
+      me = me.now.0.0;
+      leaf_left = leaf_left;
+    }) packet.now in
         MatchOption result (GivesNone causes) (λ verdict. IsFirst causes verdict) }
 {
     let header = packet.header();
@@ -114,7 +110,7 @@ pub(crate) fn on_limits<K: Kem, G: Membership>(
         return Some(Verdict::HistoryFull(history.count()));
     }
     if answers && !leaf_left {
-        return Some(Verdict::KeysSpent(count_of_sender(history, &history.member(me))));
+        return Some(Verdict::KeysSpent(count_of_sender(history, me)));
     }
     None
 }

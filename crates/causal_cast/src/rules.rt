@@ -8,7 +8,7 @@ ghost use Rattle.group_model.specs.Sets.{Id, In};
 ghost use Rattle.group_model.specs.Messages.{Add, Create, Stands};
 ghost use Rattle.group_model.specs.Membership.{ids_named};
 ghost use Rattle.group_model.specs.Validity.{SendsParts};
-ghost use Rattle.group_model.specs.Marks.{IsCrowd, IsPlace};
+ghost use Rattle.group_model.specs.Marks.{IsCrowd};
 ghost use Rattle.member_view.specs.Causes.{GivesNone, IsFirst};
 ghost use Rattle.causal_cast.specs.Judging.{inviter_by, inviter_in, receivers as ids_of_parts};
 ghost use Rattle.causal_cast.specs.Verdicts.{on_rules as by_rules, verdict_on as verdict_by};
@@ -119,28 +119,26 @@ fn verdict_on(fault: RuleFault) -> Verdict
 // The first verdict by the rules of validity, where one holds.
 pub(crate) fn on_rules<K: Kem, G: Membership>(
     history: &History,
-    me: u8,
+    me: &MemberId,
     packet: &PacketView<'_>,
 ) -> Option<Verdict>
     requires row { 0 < length history.now }
-    requires place { me < length (ids_named (history_of history.now)) }
     requires set { packet.now.header.set ≡ K.SET }
     requires stand { (i : Id) → In i (message_of packet.now.header).predecessors
         → Stands (history_of history.now) i }
     requires new { Stands (history_of history.now) (message_of packet.now.header).id → ⊥ }
-    ensures { (x : Id) (leaf_left : Bool) → IsPlace (ids_named (history_of history.now)) me x
-        → let causes = by_rules (record {
-          rule = G.rule;
-          set = K.SET;
-          is_public = K.is_public;
-          rows = history.now;
-          me = x;
-          leaf_left = leaf_left;
-        }) packet.now in
+    ensures { (leaf_left : Bool) → let causes = by_rules (record {
+      rule = G.rule;
+      set = K.SET;
+      is_public = K.is_public;
+      rows = history.now;
+      me = me.now.0.0;
+      leaf_left = leaf_left;
+    }) packet.now in
         MatchOption result (GivesNone causes) (λ verdict. IsFirst causes verdict) }
 {
     let header = packet.header();
-    if is_own(history, me, &header) {
+    if is_own(me, &header) {
         return Some(Verdict::Stranger);
     }
     match rules::<G>(history, &header) {

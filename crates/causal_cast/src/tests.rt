@@ -195,7 +195,7 @@ const ASKED: [[u8; 4]; 8] = [
     [0, 3, 6, 6],
     [0, 8, 2, 2],
     [0, 25, 0, 0],
-    [0, 22, 8, 6],
+    [0, 22, 8, 14],
     [5, 33, 8, 0],
     [6, 35, 8, 0],
     [6, 37, 0, 0],
@@ -418,7 +418,7 @@ fn asked(people: &[Person], history: &History, header: &HeaderView<'_>) -> Resul
         if place < 64 && parts.has(place) {
             bits.0 |= bit;
         }
-        if place < history.places() && needs_answer::<RemoveWins>(history, place, header) {
+        if needs_answer::<RemoveWins>(history, &person.id, header) {
             bits.1 |= bit;
         }
         bit = bit.wrapping_mul(2);

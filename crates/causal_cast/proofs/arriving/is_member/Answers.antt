@@ -1,4 +1,4 @@
-use Rattle.std.proofs.Common.{ℕ, ◌<◌, sym, subst}
+use Rattle.std.proofs.Common.{◌<◌, sym, subst}
 use Rattle.causal_cast.proofs.Histories.{history-length}
 use Rattle.causal_cast.proofs.arriving.is_member.Goals as goal
 

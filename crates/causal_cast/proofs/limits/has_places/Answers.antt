@@ -1,4 +1,4 @@
-use Rattle.std.proofs.Common.{◌≡◌, ◌↔◌, ◌≤◌, true, length, [], ◌∷◌, sym, ◌∙◌, ap, subst, arith}
+use Rattle.std.proofs.Common.{◌≡◌, ◌↔◌, ◌≤◌, true, length, [], ◌∷◌, sym, ap, subst, arith}
 use Rattle.std.specs.Option.{is_some}
 use Rattle.group_messages.specs.Messages.{kind_of}
 use Rattle.group_model.specs.Membership.{ids_named, joined, named_by}

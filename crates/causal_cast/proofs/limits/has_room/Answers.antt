@@ -1,4 +1,4 @@
-use Rattle.std.proofs.Common.{◌↔◌, ◌+◌, ◌≤◌, IsTrue, sym, subst, rules}
+use Rattle.std.proofs.Common.{rules}
 use Rattle.causal_cast.proofs.Histories.{history-length}
 use Rattle.causal_cast.proofs.limits.has_room.Goals as goal
 

@@ -10,11 +10,12 @@ use Rattle.causal_cast.proofs.limits.on_limits.Goals as goal
 
 -- what is not within by numbers passes a limit
 pub returns-then-not-is_within : goal.returns-then-not-is_within
-returns-then-not-is_within g c = λ x at.
+returns-then-not-is_within g c =
+    let x = c.args.me.now.0.0 in
     let h = history_of c.args.history.now in
     let rule = g.G.Membership.rule in
     let says = limits-say rule x h (message_of c.header-header.result) c.needs_answer-answers.result
-    (c.needs_answer-answers.ensures x at) in
+    c.needs_answer-answers.ensures in
     inl (
       λ w.
           let found : false ≡ true = c.if-not-is_within.ensures.1

@@ -1,4 +1,4 @@
-use Rattle.std.proofs.Common.{◌≡◌, length, ◌∙◌, ap}
+use Rattle.std.proofs.Common.{length, ◌∙◌, ap}
 use Rattle.group_fields.specs.Cards.{key_size}
 use Rattle.group_fields.proofs.CardBytes.{spelled_has}
 use Rattle.causal_cast.proofs.CardFacts.{key-room}

@@ -1,4 +1,4 @@
-use Rattle.std.proofs.Common.{◌≡◌, ◌+◌, ◌∷◌, take, sym, ◌∙◌, subst, length, arith}
+use Rattle.std.proofs.Common.{◌∷◌, take, sym, subst, arith}
 use Rattle.group_fields.specs.declared.header.Header.{Header}
 use Rattle.group_model.specs.Sets.{In}
 use Rattle.group_model.specs.Membership.{ids_named}

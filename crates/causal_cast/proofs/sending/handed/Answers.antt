@@ -1,4 +1,4 @@
-use Rattle.std.proofs.Common.{◌≡◌, ◌∷◌}
+use Rattle.std.proofs.Common.{◌∷◌}
 use Rattle.group_model.specs.Membership.{IsHandedTo, ids_named}
 use Rattle.group_messages.specs.Messages.{message_of}
 use Rattle.causal_history.specs.Bits.{bit}

@@ -1,5 +1,4 @@
-use Rattle.std.proofs.Common.{◌≡◌, sym, ◌∙◌, ap, subst}
-use Rattle.group_model.specs.Sets.{In}
+use Rattle.std.proofs.Common.{sym, ◌∙◌, ap}
 use Rattle.group_model.specs.Messages.{Message}
 use Rattle.group_model.proofs.Numbers.{number-in, number-one}
 use Rattle.group_messages.specs.Messages.{message_of}
