@@ -1,11 +1,11 @@
-//! Verdicts on the packets of a small group, worked out by hand: ada opens it with bob and cyd, who ack; dora and eve are
-//! to come. A row of a table is a message, or what a member has taken and what it finds of what is handed to it.
+//! Verdicts on the packets of a small group, worked out by hand: ada opens it with bob and cyd, who ack; dora and eve
+//! are to come. A row of a table is a message, or what a member has taken and what it finds of what is handed to it.
 
 mod making;
 
 use crate::{Verdict, addressees, judge, needs_answer, set_of};
-use causal_history::History;
-use group_fields::{Digest, GroupId, HeaderView, Ids, Kind, MemberId, Target, read_header};
+use causal_history::{Crowd, History};
+use group_fields::{Digest, GroupId, HeaderView, Ids, Kind, MemberId, MessageId, Target};
 use kem_trait::Kem;
 use making::*;
 use member_view::{RemoveWins, place_with};
@@ -210,16 +210,36 @@ fn at<T>(list: &[T], index: u8) -> Result<&T, Fail> {
     }
 }
 
+/// The people and all messages.
+#[derive(Drop)]
+struct Group {
+    people: Vec<Person>,
+    letters: Vec<Letter>,
+}
+
+/// Adds the person of a number to those before.
+fn add_person(alloc: Global, people: &mut Vec<Person>, number: u8) -> Result<(), Fail> {
+    let inviter = match people.as_slice().first() {
+        Some(ada) => ada.id,
+        None => MemberId(Digest([0; 32])),
+    };
+    let signs = number == 1 || number == 3;
+    people.push(new_person(alloc, number, inviter, signs, number != 5)?)?;
+    Ok(())
+}
+
 /// The people. ada may add everybody.
 fn people(alloc: Global) -> Result<Vec<Person>, Fail> {
     let mut list = Vec::new(alloc);
-    let ada = new_person(alloc, 1, MemberId(Digest([0; 32])), true, true)?;
-    let inviter = ada.id;
-    list.push(ada)?;
-    for number in 2..6 {
-        list.push(new_person(alloc, number, inviter, number == 3, number != 5)?)?;
+    for number in 1..6 {
+        add_person(alloc, &mut list, number)?;
     }
     Ok(list)
+}
+
+/// The id of a message.
+fn id_of(letters: &[Letter], index: u8) -> Result<MessageId, Fail> {
+    Ok(at(letters, index)?.id)
 }
 
 /// The ids of those whose bits are set.
@@ -235,12 +255,17 @@ fn ids_of(alloc: Global, people: &[Person], bits: u8) -> Result<Vec<Digest>, Fai
     Ok(list)
 }
 
+/// The ids of the members that the create names.
+fn members(alloc: Global, people: &[Person]) -> Result<Ids, Fail> {
+    Ok(sorted(ids_of(alloc, people, 7)?))
+}
+
 /// The ids of the messages that a message follows.
 fn after(alloc: Global, done: &[Letter], messages: &[u8]) -> Result<Ids, Fail> {
     let mut list = Vec::new(alloc);
     for message in messages {
         if *message != NO {
-            list.push(at(done, *message)?.id.0)?;
+            list.push(id_of(done, *message)?.0)?;
         }
     }
     Ok(sorted(list))
@@ -267,27 +292,45 @@ fn target_of(
     whom: u8,
 ) -> Result<Target, Fail> {
     Ok(match kind {
-        CREATE => Target::Members(sorted(ids_of(alloc, people, 7)?)),
+        CREATE => Target::Members(members(alloc, people)?),
         REMOVE | ADD => Target::Member(at(people, whom)?.id),
-        ACK | ADD_ACK => Target::Answer(at(done, whom)?.id, true),
-        REFUSED_ACK => Target::Answer(at(done, whom)?.id, false),
+        ACK | ADD_ACK => Target::Answer(id_of(done, whom)?, true),
+        REFUSED_ACK => Target::Answer(id_of(done, whom)?, false),
         _ => Target::Nothing,
     })
+}
+
+/// What the create carries.
+fn creation_body(alloc: Global, people: &[Person], parts: &[u8]) -> Result<Vec<u8>, Fail> {
+    let mut body = cards_of(alloc, people, members(alloc, people)?.as_slice())?;
+    body.extend_from_slice(parts)?;
+    Ok(body)
 }
 
 /// What a message carries.
 fn body_of(alloc: Global, people: &[Person], kind: u8, whom: u8, to: u8) -> Result<Vec<u8>, Fail> {
     match kind {
         ADD => addition_body(alloc, at(people, whom)?),
-        TEXT | STRAY => Ok(vec![in alloc; 0; 34]?),
+        TEXT | STRAY => filled(alloc, 0, 34),
         CREATE => {
-            let members = sorted(ids_of(alloc, people, 7)?);
-            let mut body = cards_of(alloc, people, members.as_slice())?;
-            body.extend_from_slice(parts(alloc, ids_of(alloc, people, to)?)?.as_slice())?;
-            Ok(body)
+            let parts = parts(alloc, ids_of(alloc, people, to)?)?;
+            creation_body(alloc, people, parts.as_slice())
         }
         _ => parts(alloc, ids_of(alloc, people, to)?),
     }
+}
+
+/// What the message of a row says, after those before it.
+fn says(alloc: Global, people: &[Person], done: &[Letter], row: &[u8; 10]) -> Result<Says, Fail> {
+    let [sender, seq, kind, whom, a, b, c, _, _, _] = *row;
+    Ok(Says {
+        group: GroupId(Digest([if kind == STRAY { 2 } else { 1 }; 32])),
+        sender: at(people, sender)?.id,
+        seq: u32::from(seq),
+        kind: kind_of(kind),
+        target: target_of(alloc, people, done, kind, whom)?,
+        after: after(alloc, done, &[a, b, c])?,
+    })
 }
 
 /// The message of a row, after those before it.
@@ -297,44 +340,82 @@ fn message(
     done: &[Letter],
     row: &[u8; 10],
 ) -> Result<Letter, Fail> {
-    let [sender, seq, kind, whom, a, b, c, to, signer, leaf] = *row;
-    let says = Says {
-        group: GroupId(Digest([if kind == STRAY { 2 } else { 1 }; 32])),
-        sender: at(people, sender)?.id,
-        seq: u32::from(seq),
-        kind: kind_of(kind),
-        target: target_of(alloc, people, done, kind, whom)?,
-        after: after(alloc, done, &[a, b, c])?,
-    };
+    let [_, _, kind, whom, _, _, _, to, signer, leaf] = *row;
+    let says = says(alloc, people, done, row)?;
     let body = body_of(alloc, people, kind, whom, to)?;
-    new_letter(
-        alloc,
-        says,
-        body.as_slice(),
-        at(people, signer)?,
-        u32::from(leaf),
-    )
+    let signer = at(people, signer)?;
+    new_letter(alloc, says, body.as_slice(), signer, leaf.into())
+}
+
+/// Adds the message of a row to those before.
+fn add_letter(
+    alloc: Global,
+    people: &[Person],
+    done: &mut Vec<Letter>,
+    row: &[u8; 10],
+) -> Result<(), Fail> {
+    let next = message(alloc, people, done.as_slice(), row)?;
+    done.push(next)?;
+    Ok(())
 }
 
 /// All messages.
 fn letters(alloc: Global, people: &[Person]) -> Result<Vec<Letter>, Fail> {
     let mut done = Vec::new(alloc);
     for row in &MESSAGES {
-        let next = message(alloc, people, done.as_slice(), row)?;
-        done.push(next)?;
+        add_letter(alloc, people, &mut done, row)?;
     }
     Ok(done)
 }
 
-/// The history of a number.
-fn taken(alloc: Global, letters: &[Letter], number: u8) -> Result<History, Fail> {
-    let mut rows = History::new(alloc);
-    for index in at(&TAKEN, number)? {
-        if *index != NO {
-            take(alloc, &mut rows, at(letters, *index)?)?;
+fn new_group(alloc: Global) -> Result<Group, Fail> {
+    let people = people(alloc)?;
+    let letters = letters(alloc, people.as_slice())?;
+    Ok(Group { people, letters })
+}
+
+impl Group {
+    fn person(&self, number: u8) -> Result<&Person, Fail> {
+        at(self.people.as_slice(), number)
+    }
+
+    fn letter(&self, number: u8) -> Result<&Letter, Fail> {
+        at(self.letters.as_slice(), number)
+    }
+
+    fn message_id(&self, number: u8) -> Result<MessageId, Fail> {
+        id_of(self.letters.as_slice(), number)
+    }
+}
+
+/// Takes messages into a history.
+fn take_all(alloc: Global, group: &Group, rows: &mut History, messages: &[u8]) -> Result<(), Fail> {
+    for message in messages {
+        if *message != NO {
+            take(alloc, rows, group.letter(*message)?)?;
         }
     }
+    Ok(())
+}
+
+/// The history of a number.
+fn taken(alloc: Global, group: &Group, number: u8) -> Result<History, Fail> {
+    let mut rows = History::new(alloc);
+    take_all(alloc, group, &mut rows, at(&TAKEN, number)?)?;
     Ok(rows)
+}
+
+/// What the member of a place finds of a packet. None where nobody can judge it.
+fn judged(history: &History, me: u8, leaf_left: bool, packet: &PacketView<'_>) -> Option<Verdict> {
+    if set_of(history) != Some(Drill37::SET) || me >= history.places() {
+        return None;
+    }
+    Some(judge::<Drill37, RemoveWins>(history, leaf_left, me, packet))
+}
+
+/// The place of a member in a history, or one that nobody has.
+fn place_in(history: &History, who: &MemberId) -> u8 {
+    history.place(who).unwrap_or(NO)
 }
 
 /// What a member finds of the bytes of a packet.
@@ -343,109 +424,159 @@ fn found(history: &History, who: MemberId, leaf_left: bool, bytes: &[u8]) -> Res
         Ok(packet) => packet,
         Err(malformed) => return Ok(Verdict::Malformed(malformed.0)),
     };
-    let me = history.place(&who).unwrap_or(255);
-    if set_of(history) != Some(Drill37::SET) || me >= history.places() {
-        return Err(Fail::new("nothing to judge by"));
+    match judged(history, place_in(history, &who), leaf_left, &packet) {
+        Some(verdict) => Ok(verdict),
+        None => Err(Fail::new("nothing to judge by")),
     }
-    Ok(judge::<Drill37, RemoveWins>(history, leaf_left, me, &packet))
+}
+
+/// The bytes of a packet, with bits of its last byte changed.
+fn spoiled(alloc: Global, letter: &Letter, bits: u8) -> Result<Vec<u8>, Fail> {
+    let mut bytes = letter.packet.as_slice().to_vec(alloc)?;
+    if let Some(last) = bytes.as_mut_slice().last_mut() {
+        *last ^= bits;
+    }
+    Ok(bytes)
+}
+
+/// What a member finds of bytes, where it has taken the history of a number.
+fn found_after(
+    alloc: Global,
+    group: &Group,
+    history: u8,
+    who: MemberId,
+    leaf_left: bool,
+    bytes: &[u8],
+) -> Result<Verdict, Fail> {
+    let rows = taken(alloc, group, history)?;
+    found(&rows, who, leaf_left, bytes)
 }
 
 /// What is found in a case.
-fn found_in(
-    alloc: Global,
-    people: &[Person],
-    letters: &[Letter],
-    case: &[u8; 7],
-) -> Result<Verdict, Fail> {
-    let [history, who, leaf_left, message, spoiled, _, _] = *case;
-    let rows = taken(alloc, letters, history)?;
-    let mut bytes = at(letters, message)?.packet.as_slice().to_vec(alloc)?;
-    if let Some(last) = bytes.as_mut_slice().last_mut() {
-        *last ^= spoiled;
-    }
-    found(&rows, at(people, who)?.id, leaf_left == 1, bytes.as_slice())
+fn found_in(alloc: Global, group: &Group, case: &[u8; 7]) -> Result<Verdict, Fail> {
+    let [history, who, leaf_left, message, bits, _, _] = *case;
+    let who = group.person(who)?.id;
+    let bytes = spoiled(alloc, group.letter(message)?, bits)?;
+    found_after(alloc, group, history, who, leaf_left == 1, bytes.as_slice())
+}
+
+/// The lesser of the ids of messages 3 and 5.
+fn lesser(group: &Group) -> Result<MessageId, Fail> {
+    Ok(group.message_id(3)?.min(group.message_id(5)?))
 }
 
 /// What is to be found in a case.
-fn wanted_in(letters: &[Letter], case: &[u8; 7]) -> Result<Verdict, Fail> {
+fn wanted_in(group: &Group, case: &[u8; 7]) -> Result<Verdict, Fail> {
     let [_, _, _, _, _, verdict, value] = *case;
     Ok(match verdict {
         OUT => Verdict::Out,
         OTHER_GROUP => Verdict::OtherGroup,
         KNOWN => Verdict::Known,
-        WAITS => Verdict::Waits(at(letters, value)?.id),
-        LEAST => Verdict::Waits(at(letters, 3)?.id.min(at(letters, 5)?.id)),
+        WAITS => Verdict::Waits(group.message_id(value)?),
+        LEAST => Verdict::Waits(lesser(group)?),
         STRANGER => Verdict::Stranger,
         NOT_MEMBER => Verdict::NotMember,
-        FORKED => Verdict::Forked(at(letters, value)?.id),
+        FORKED => Verdict::Forked(group.message_id(value)?),
         BAD_ORDER => Verdict::BadOrder,
         BAD_KIND => Verdict::BadKind,
-        KEYS_SPENT => Verdict::KeysSpent(u32::from(value)),
+        KEYS_SPENT => Verdict::KeysSpent(value.into()),
         BAD_SIGNATURE => Verdict::BadSignature,
         _ => Verdict::Ready,
     })
 }
 
+/// Whether a case is judged as it is told.
+fn is_as_told(alloc: Global, group: &Group, case: &[u8; 7]) -> Result<bool, Fail> {
+    Ok(found_in(alloc, group, case)? == wanted_in(group, case)?)
+}
+
 /// The number of the first case that is judged otherwise.
-fn first_wrong(alloc: Global) -> Result<Option<usize>, Fail> {
-    let people = people(alloc)?;
-    let letters = letters(alloc, people.as_slice())?;
+fn first_wrong(alloc: Global, group: &Group) -> Result<Option<usize>, Fail> {
     for (index, case) in CASES.iter().enumerate() {
-        let found = found_in(alloc, people.as_slice(), letters.as_slice(), case)?;
-        if found != wanted_in(letters.as_slice(), case)? {
+        if !is_as_told(alloc, group, case)? {
             return Ok(Some(index));
         }
     }
     Ok(None)
+}
+
+fn wrong_case(alloc: Global) -> Result<Option<usize>, Fail> {
+    let group = new_group(alloc)?;
+    first_wrong(alloc, &group)
 }
 
 #[test]
 fn packets_are_judged(rt: HostRuntime) -> Result<(), Fail> {
-    assert_eq!(rt; first_wrong(rt.alloc())?, None);
+    assert_eq!(rt; wrong_case(rt.alloc())?, None);
     Ok(())
 }
 
-/// Whom a message sends parts to, and who has to answer it, by the bits of the people.
-fn asked(people: &[Person], history: &History, header: &HeaderView<'_>) -> Result<(u8, u8), Fail> {
+/// Whom a message sends parts to. None where nothing is to be asked.
+fn sent_to(history: &History, header: &HeaderView<'_>) -> Option<Crowd> {
     if header.kind() == Kind::Create || history.missing(header).is_some() {
-        return Err(Fail::new("nothing to ask about"));
+        return None;
     }
-    let parts = addressees::<RemoveWins>(history, header);
+    Some(addressees::<RemoveWins>(history, header))
+}
+
+/// The place of a member in a history with a message, or one that nobody has.
+fn place_of(history: &History, header: &HeaderView<'_>, who: &MemberId) -> u8 {
+    place_with(history, Some(header), who).unwrap_or(NO)
+}
+
+fn has_place(crowd: Crowd, place: u8) -> bool {
+    place < 64 && crowd.has(place)
+}
+
+/// Whether a member has to answer a message.
+fn has_to_answer(history: &History, header: &HeaderView<'_>, who: &MemberId) -> bool {
+    header.kind() != Kind::Create && needs_answer::<RemoveWins>(history, who, header)
+}
+
+/// Whom a message sends parts to, and who has to answer it, by the bits of the people.
+fn asked(people: &[Person], history: &History, header: &HeaderView<'_>) -> Option<(u8, u8)> {
+    let sent_to = sent_to(history, header)?;
     let mut bits = (0u8, 0u8);
     let mut bit = 1u8;
     for person in people {
-        let place = place_with(history, Some(header), &person.id).unwrap_or(255);
-        if place < 64 && parts.has(place) {
+        let place = place_of(history, header, &person.id);
+        if has_place(sent_to, place) {
             bits.0 |= bit;
         }
-        if needs_answer::<RemoveWins>(history, &person.id, header) {
+        if has_to_answer(history, header, &person.id) {
             bits.1 |= bit;
         }
         bit = bit.wrapping_mul(2);
     }
-    Ok(bits)
+    Some(bits)
+}
+
+/// Whether a row is answered as it is told.
+fn is_answered(alloc: Global, group: &Group, row: &[u8; 4]) -> Result<bool, Fail> {
+    let [history, message, to, answering] = *row;
+    let header = header_in(group.letter(message)?.header.as_slice())?;
+    let rows = taken(alloc, group, history)?;
+    Ok(asked(group.people.as_slice(), &rows, &header) == Some((to, answering)))
 }
 
 /// The number of the first row that is answered otherwise.
-fn first_amiss(alloc: Global) -> Result<Option<usize>, Fail> {
-    let people = people(alloc)?;
-    let letters = letters(alloc, people.as_slice())?;
-    for (index, [history, message, to, answering]) in ASKED.iter().enumerate() {
-        let rows = taken(alloc, letters.as_slice(), *history)?;
-        let header = match read_header(at(letters.as_slice(), *message)?.header.as_slice()) {
-            Ok(header) => header,
-            Err(_) => return Err(Fail::new("a header that can't be read")),
-        };
-        if asked(people.as_slice(), &rows, &header)? != (*to, *answering) {
+fn first_amiss(alloc: Global, group: &Group) -> Result<Option<usize>, Fail> {
+    for (index, row) in ASKED.iter().enumerate() {
+        if !is_answered(alloc, group, row)? {
             return Ok(Some(index));
         }
     }
     Ok(None)
 }
 
+fn wrong_answer(alloc: Global) -> Result<Option<usize>, Fail> {
+    let group = new_group(alloc)?;
+    first_amiss(alloc, &group)
+}
+
 #[test]
 fn parts_and_answers(rt: HostRuntime) -> Result<(), Fail> {
-    assert_eq!(rt; first_amiss(rt.alloc())?, None);
+    assert_eq!(rt; wrong_answer(rt.alloc())?, None);
     Ok(())
 }
 
@@ -457,47 +588,86 @@ fn next_of(alloc: Global, ada: MemberId, seq: u32, kind: Kind, last: Digest) -> 
         seq,
         kind,
         target: Target::Nothing,
-        after: Ids::from([last].to_vec(alloc)?),
+        after: sorted([last].to_vec(alloc)?),
     })
 }
 
-/// What bob finds of ada's next message of a kind, whose signature is not good.
+/// Ada's next message of a kind. Bob signs it, so its signature is not good.
+fn next_letter(
+    alloc: Global,
+    group: &Group,
+    seq: u32,
+    kind: u8,
+    last: Digest,
+) -> Result<Letter, Fail> {
+    let body = body_of(alloc, group.people.as_slice(), kind, NO, 6)?;
+    let says = next_of(alloc, group.person(ADA)?.id, seq, kind_of(kind), last)?;
+    new_letter(alloc, says, body.as_slice(), group.person(BOB)?, 0)
+}
+
+/// What bob finds of ada's next message of a kind.
 fn found_next(
     alloc: Global,
-    people: &[Person],
+    group: &Group,
     rows: &History,
     kind: u8,
     last: Digest,
 ) -> Result<Verdict, Fail> {
-    let bob = at(people, BOB)?;
+    let bob = group.person(BOB)?.id;
     let seq = rows.count().saturating_sub(1);
-    let says = next_of(alloc, at(people, ADA)?.id, seq, kind_of(kind), last)?;
-    let body = body_of(alloc, people, kind, NO, 6)?;
-    let next = new_letter(alloc, says, body.as_slice(), bob, 0)?;
-    found(rows, bob.id, true, next.packet.as_slice())
+    let next = next_letter(alloc, group, seq, kind, last)?;
+    found(rows, bob, true, next.packet.as_slice())
 }
 
-/// What bob finds of ada's next text and next update, where the history has 4,094 messages or more: the first three, and
-/// texts of ada's.
-fn filling(alloc: Global) -> Result<Vec<Verdict>, Fail> {
-    let people = people(alloc)?;
-    let letters = letters(alloc, people.as_slice())?;
-    let mut rows = taken(alloc, letters.as_slice(), 3)?;
-    let ada = at(people.as_slice(), ADA)?.id;
-    let mut last = at(letters.as_slice(), 25)?.id.0;
+/// Puts ada's text of a number behind her last message, and answers its id.
+fn put_text(
+    alloc: Global,
+    group: &Group,
+    rows: &mut History,
+    seq: u32,
+    last: Digest,
+) -> Result<Digest, Fail> {
+    let ada = group.person(ADA)?.id;
+    put(alloc, rows, next_of(alloc, ada, seq, Kind::Text, last)?)
+}
+
+/// Where the history has 4,094 messages or more: what bob finds of ada's next text, and of her next update.
+fn find_where_full(
+    alloc: Global,
+    group: &Group,
+    rows: &History,
+    last: Digest,
+    into: &mut Vec<Verdict>,
+) -> Result<(), Fail> {
+    if rows.count() < 4094 {
+        return Ok(());
+    }
+    for kind in [TEXT, UPDATE] {
+        into.push(found_next(alloc, group, rows, kind, last)?)?;
+    }
+    Ok(())
+}
+
+/// What is found while further texts of ada's fill the history up.
+fn found_filling(alloc: Global, group: &Group, rows: &mut History) -> Result<Vec<Verdict>, Fail> {
+    let mut last = group.message_id(25)?.0;
     let mut all = Vec::new(alloc);
     for seq in 3..4095 {
-        last = put(
-            alloc,
-            &mut rows,
-            next_of(alloc, ada, seq, Kind::Text, last)?,
-        )?;
-        if rows.count() >= 4094 {
-            all.push(found_next(alloc, people.as_slice(), &rows, TEXT, last)?)?;
-            all.push(found_next(alloc, people.as_slice(), &rows, UPDATE, last)?)?;
-        }
+        last = put_text(alloc, group, rows, seq, last)?;
+        find_where_full(alloc, group, rows, last, &mut all)?;
     }
     Ok(all)
+}
+
+/// What is found from the first three messages and ada's text on.
+fn found_behind(alloc: Global, group: &Group) -> Result<Vec<Verdict>, Fail> {
+    let mut rows = taken(alloc, group, 3)?;
+    found_filling(alloc, group, &mut rows)
+}
+
+fn filling(alloc: Global) -> Result<Vec<Verdict>, Fail> {
+    let group = new_group(alloc)?;
+    found_behind(alloc, &group)
 }
 
 #[test]
