@@ -1,8 +1,9 @@
 mod fixtures;
 
 use super::*;
+use fixtures::Piece::{Bytes, Fill};
 use fixtures::*;
-use group_fields::Kind;
+use group_fields::{Kind, MemberId};
 use std::alloc::{AllocError, Global};
 use std::test::Fail;
 
@@ -11,37 +12,26 @@ const CARD: [u32; 9] = [1, 1, 1, 4, 4, 16, 32, 32, 33];
 
 const PART: [u32; 5] = [1, 4, 58, 164, 32];
 
-// Appends the sizes of the fields of the body of a kind.
+// The sizes of the fields of the body of a kind.
 fn body_fields(alloc: Global, kind: u8) -> Result<Vec<u32>, AllocError> {
-    let mut fields = Vec::new(alloc);
     match kind {
-        1 => {
-            fields.extend_from_slice(&CARD)?;
-            fields.extend_from_slice(&CARD)?;
-            fields.extend_from_slice(&[1, 32])?;
-            fields.extend_from_slice(&PART)?;
-        }
-        4 => {
-            fields.extend_from_slice(&CARD)?;
-            fields.extend_from_slice(&PART)?;
-            fields.push(1)?;
-            fields.extend_from_slice(&CARD)?;
-            fields.extend_from_slice(&CARD)?;
-            fields.extend_from_slice(&[2, 2, 105, 2, 105])?;
-        }
-        6 => {
-            fields.extend_from_slice(&[1, 32])?;
-            fields.extend_from_slice(&PART)?;
-        }
-        7 => fields.extend_from_slice(&[2, 5, 32])?,
-        _ => {
-            fields.extend_from_slice(&[1, 32])?;
-            fields.extend_from_slice(&PART)?;
-            fields.push(32)?;
-            fields.extend_from_slice(&PART)?;
-        }
+        1 => in_order(alloc, &[&CARD, &CARD, &[1, 32], &PART]),
+        4 => in_order(
+            alloc,
+            &[&CARD, &PART, &[1], &CARD, &CARD, &[2, 2, 105, 2, 105]],
+        ),
+        6 => in_order(alloc, &[&[1, 32], &PART]),
+        7 => in_order(alloc, &[&[2, 5, 32]]),
+        _ => in_order(alloc, &[&[1, 32], &PART, &[32], &PART]),
     }
-    Ok(fields)
+}
+
+fn in_order(alloc: Global, lists: &[&[u32]]) -> Result<Vec<u32>, AllocError> {
+    let mut all = Vec::new(alloc);
+    for list in lists {
+        all.extend_from_slice(list)?;
+    }
+    Ok(all)
 }
 
 // The place of the first field that does not fit into so many bytes.
@@ -66,15 +56,61 @@ fn refused_cut(bytes: &[u8], length: u32) -> Option<u32> {
     refused_at(bytes.get(..length as usize)?)
 }
 
-// Where a packet is refused whose body has only so many bytes, with the digest of these.
+// How many bytes are left, and where they are refused, if at all.
+type Cut = (u32, Option<u32>);
+
+// The first length to which bytes are cut without being refused at the field that does not fit. Bytes that have the
+// fields and nothing more are not to be refused.
+fn differing_cut(bytes: &[u8], fields: &[u32]) -> Option<Cut> {
+    let whole = sum(fields);
+    for length in 0..=whole.saturating_add(1) {
+        let place = Some(place_of_cut(fields, length));
+        let wanted = if length == whole { None } else { place };
+        let refused = refused_cut(bytes, length);
+        if refused != wanted {
+            return Some((length, refused));
+        }
+    }
+    None
+}
+
+// The same for the packet of a kind, with its header of so many bytes, and one byte behind it.
+fn differing_packet(alloc: Global, kind: u8, header: u32) -> Result<Option<Cut>, AllocError> {
+    let size = sum(&body_fields(alloc, kind)?);
+    let fields = [4, 2, header, 4, size, 4, 4, 32, 2144, 4, 160];
+    let packet = packet_of(alloc, kind)?;
+    let bytes = spelled(alloc, &[Bytes(&packet), Fill(0, 1)])?;
+    Ok(differing_cut(&bytes, &fields))
+}
+
+// Where a message of set 2 with this body is refused.
 fn refused_body(
     alloc: Global,
     kind: u8,
+    target: &[u8],
     body: &[u8],
-    length: u32,
+    signature: &[u8],
 ) -> Result<Option<u32>, AllocError> {
-    let bytes = packet_of(alloc, kind, body.get(..length as usize).unwrap_or(body))?;
-    Ok(refused_at(&bytes))
+    let header = header(alloc, 2, kind, target, 1, digest_of(body))?;
+    refused_joined(alloc, &header, body, signature)
+}
+
+// The first length to which the body of a kind is cut without being refused at the field that does not fit.
+fn differing_body(alloc: Global, kind: u8, header: u32) -> Result<Option<Cut>, AllocError> {
+    let before = sum(&[4, 2, header, 4]);
+    let fields = body_fields(alloc, kind)?;
+    let target = target(alloc, kind)?;
+    let body = body(alloc, kind)?;
+    let signature = signature(alloc, 5)?;
+    for length in 0..sum(&fields) {
+        let place = before.saturating_add(place_of_cut(&fields, length));
+        let cut = body.get(..length as usize).unwrap_or(&body);
+        let refused = refused_body(alloc, kind, &target, cut, &signature)?;
+        if refused != Some(place) {
+            return Ok(Some((length, refused)));
+        }
+    }
+    Ok(None)
 }
 
 // The bytes of a header of a kind of set 2: those of its target beside 138.
@@ -92,102 +128,80 @@ const HEADERS: [(u8, u32); 7] = [
 fn refuses_cut_packets_at_the_field_that_does_not_fit(rt: HostRuntime) -> Result<(), Fail> {
     let alloc = rt.alloc();
     for (kind, header) in HEADERS {
-        let body = body(alloc, kind)?;
-        let fields = body_fields(alloc, kind)?;
-        let size = sum(&fields);
-        let mut bytes = packet_of(alloc, kind, &body)?;
-        let all = [4, 2, header, 4, size, 4, 4, 32, 2144, 4, 160];
-        let whole = sum(&all);
-        assert_eq!(rt; refused_at(&bytes), None, "kind {kind}");
-        for length in 0..whole {
-            let place = Some(place_of_cut(&all, length));
-            assert_eq!(rt;
-                refused_cut(&bytes, length),
-                place,
-                "kind {kind} cut at {length}"
-            );
-        }
-        bytes.push(0)?;
-        assert_eq!(rt; refused_at(&bytes), Some(whole), "kind {kind} and a byte");
-        let before = sum(&[4, 2, header, 4]);
-        for length in 0..size {
-            let place = Some(before.saturating_add(place_of_cut(&fields, length)));
-            let refused = refused_body(alloc, kind, &body, length)?;
-            assert_eq!(rt; refused, place, "body of kind {kind} cut at {length}");
-        }
+        assert_eq!(rt; differing_packet(alloc, kind, header)?, None, "kind {kind}");
+        assert_eq!(rt;
+            differing_body(alloc, kind, header)?,
+            None,
+            "body of kind {kind}"
+        );
     }
     Ok(())
 }
 
-// Where a packet is refused with one byte changed to its inverse.
-fn refused_inverted(mut bytes: Vec<u8>, place: u32) -> Option<u32> {
-    let byte = bytes.get_mut(place as usize)?;
-    *byte = !*byte;
-    refused_at(&bytes)
+// A create of one member of set 1, of the sizes that the format gives.
+fn worked_create(alloc: Global) -> Result<Vec<u8>, AllocError> {
+    let card = card(alloc, 1, 1)?;
+    let target = spelled(alloc, &[Fill(1, 1), Bytes(&digest_of(&card))])?;
+    let body = spelled(alloc, &[Bytes(&card), Fill(0, 1)])?;
+    let header = header(alloc, 1, 1, &target, 0, digest_of(&body))?;
+    joined(alloc, &header, &body, &signature(alloc, 6)?)
 }
 
-// A create of one member and a text of set 1, of the sizes that the format gives.
-fn worked(alloc: Global) -> Result<(Vec<u8>, Vec<u8>), AllocError> {
-    let card = cards(alloc, 1, &[1])?;
-    let mut target = vec![in alloc; 1]?;
-    target.extend_from_slice(&digest_of(&card))?;
-    let mut body = card;
-    body.push(0)?;
-    let header = header(alloc, 1, 1, &target, 0, &digest_of(&body))?;
-    let signature = signature(alloc, 6)?;
-    let create = joined(alloc, &header, &body, &signature)?;
-    let text = packet(alloc, 1, 7, &[], &text_body(alloc, 5)?)?;
-    Ok((create, text))
+// A text of set 1 likewise.
+fn worked_text(alloc: Global) -> Result<Vec<u8>, AllocError> {
+    packet(alloc, 1, 7, &[], &text_body(alloc, 5)?)
 }
+
+// Where a packet is refused with one byte changed to its inverse.
+fn refused_inverted(alloc: Global, bytes: &[u8], place: u32) -> Result<Option<u32>, AllocError> {
+    let mut inverted = bytes.to_vec(alloc)?;
+    if let Some(byte) = inverted.get_mut(place as usize) {
+        *byte = !*byte;
+    }
+    Ok(refused_at(&inverted))
+}
+
+// How many bytes of the text are left, and where these are refused.
+const CUTS: [(u32, u32); 6] = [
+    (0, 0),
+    (5, 4),
+    (2693, 2374),
+    (2370, 2370),
+    (226, 226),
+    (194, 194),
+];
+
+// Bytes of the text, and where it is refused with one of them inverted.
+const INVERTED: [(&[u32], Option<u32>); 9] = [
+    (&[0, 1, 2, 3], Some(0)),
+    (&[4, 6], Some(6)),
+    (&[5], Some(111)),
+    (&[7], Some(7)),
+    (&[8], Some(8)),
+    (&[143, 144, 145, 146, 147, 148, 185], Some(147)),
+    (&[190, 191, 192, 193], Some(190)),
+    (&[2370, 2371, 2372, 2373], Some(2370)),
+    (&[186, 189, 194, 225, 226, 2369, 2374, 2693], None),
+];
 
 #[test]
 fn worked_packets_have_their_sizes_and_places(rt: HostRuntime) -> Result<(), Fail> {
     let alloc = rt.alloc();
-    let (create, text) = worked(alloc)?;
+    let create = worked_create(alloc)?;
+    let text = worked_text(alloc)?;
     assert_eq!(rt; (create.len(), text.len()), (3906, 2694));
     assert_eq!(rt; (refused_at(&create), refused_at(&text)), (None, None));
-    for (length, place) in [
-        (0, 0),
-        (5, 4),
-        (2693, 2374),
-        (2370, 2370),
-        (226, 226),
-        (194, 194),
-    ] {
+    for (length, place) in CUTS {
         assert_eq!(rt; refused_cut(&text, length), Some(place), "cut at {length}");
     }
-    let inverted = [
-        (0, 0),
-        (1, 0),
-        (2, 0),
-        (3, 0),
-        (4, 6),
-        (5, 111),
-        (6, 6),
-        (7, 7),
-        (8, 8),
-        (143, 147),
-        (144, 147),
-        (145, 147),
-        (146, 147),
-        (147, 147),
-        (148, 147),
-        (185, 147),
-        (190, 190),
-        (191, 190),
-        (192, 190),
-        (193, 190),
-        (2370, 2370),
-        (2371, 2370),
-        (2372, 2370),
-        (2373, 2370),
-    ];
-    for (byte, place) in inverted {
-        let refused = refused_inverted(text.clone()?, byte);
-        assert_eq!(rt; refused, Some(place), "byte {byte}");
-    }
-    for byte in [186, 189, 194, 225, 226, 2369, 2374, 2693] {
-        assert_eq!(rt; refused_inverted(text.clone()?, byte), None, "byte {byte}");
+    for (bytes, place) in INVERTED {
+        for byte in bytes {
+            assert_eq!(rt;
+                refused_inverted(alloc, &text, *byte)?,
+                place,
+                "byte {byte}"
+            );
+        }
     }
     Ok(())
 }
@@ -228,17 +242,48 @@ const CASES: [(Case, Option<u32>); 32] = [
     (Case::Row(106), Some(493)),
 ];
 
+// The first case that is refused elsewhere, and where.
+fn differing_case(alloc: Global) -> Result<Option<(Case, Option<u32>)>, AllocError> {
+    for (case, place) in CASES {
+        let refused = refused_case(alloc, case)?;
+        if refused != place {
+            return Ok(Some((case, refused)));
+        }
+    }
+    Ok(None)
+}
+
+// Where an update is refused whose parts do not ascend, and whose header names another digest.
+fn refused_with_other_digest(alloc: Global) -> Result<Option<u32>, AllocError> {
+    let body = parts(alloc, &[5, 4])?;
+    let header = header(alloc, 2, 2, &[], 1, [0; 32])?;
+    refused_joined(alloc, &header, &body, &signature(alloc, 5)?)
+}
+
+// Where a text of a set is refused whose signature has an LMS type.
+fn refused_with_type(alloc: Global, set: u8, lms_type: u8) -> Result<Option<u32>, AllocError> {
+    let body = text_body(alloc, 5)?;
+    let header = header(alloc, set, 7, &[], 1, digest_of(&body))?;
+    refused_joined(alloc, &header, &body, &signature(alloc, lms_type)?)
+}
+
+fn zeros(alloc: Global, count: usize) -> Result<Vec<u8>, AllocError> {
+    vec![in alloc; 0; count]
+}
+
+// Where so many zeros are refused.
+fn refused_zeros(alloc: Global, count: usize) -> Result<Option<u32>, AllocError> {
+    let zeros = zeros(alloc, count)?;
+    Ok(refused_at(&zeros))
+}
+
 #[test]
 fn refuses_bodies_at_their_least_place(rt: HostRuntime) -> Result<(), Fail> {
     let alloc = rt.alloc();
-    for (case, place) in CASES {
-        assert_eq!(rt; refused_case(alloc, case)?, place, "{case:?}");
-    }
+    let differing = differing_case(alloc)?;
+    assert!(rt; differing.is_none(), "{differing:?}");
     // a digest that differs comes before each fault inside the body
-    let body = parts(alloc, 2, &[5, 4])?;
-    let header = header(alloc, 2, 2, &[], 1, &[0; 32])?;
-    let bytes = joined(alloc, &header, &body, &signature(alloc, 5)?)?;
-    assert_eq!(rt; refused_at(&bytes), Some(147));
+    assert_eq!(rt; refused_with_other_digest(alloc)?, Some(147));
     // the LMS type decides how long the path is
     for (set, lms_type, place) in [
         (2, 5, None),
@@ -246,174 +291,166 @@ fn refuses_bodies_at_their_least_place(rt: HostRuntime) -> Result<(), Fail> {
         (1, 5, Some(2370)),
         (2, 7, Some(2370)),
     ] {
-        let body = text_body(alloc, 5)?;
-        let header = fixtures::header(alloc, set, 7, &[], 1, &digest_of(&body))?;
-        let bytes = joined(alloc, &header, &body, &signature(alloc, lms_type)?)?;
-        assert_eq!(rt; refused_at(&bytes), place, "type {lms_type} of set {set}");
+        let refused = refused_with_type(alloc, set, lms_type)?;
+        assert_eq!(rt; refused, place, "type {lms_type} of set {set}");
     }
-    let long = vec![in alloc; 0; 8_388_609]?;
-    assert_eq!(rt; refused_at(&long), Some(8_388_608));
-    assert_eq!(rt; refused_cut(&long, 8_388_608), Some(0));
+    for (count, place) in [(8_388_609, 8_388_608), (8_388_608, 0)] {
+        assert_eq!(rt; refused_zeros(alloc, count)?, Some(place), "{count} zeros");
+    }
     Ok(())
 }
 
-// What a view lends: how many cards, where the last one is, how many parts, where the last one is, and for whom.
-#[derive(Clone, Copy)]
-struct Lent {
-    cards: u8,
-    card: (usize, usize),
-    parts: u8,
-    part: (usize, usize),
-    id: u8,
-}
-
-// A kind, and what a packet of it lends.
-const LENT: [(u8, Lent); 7] = [
-    (
-        1,
-        Lent {
-            cards: 2,
-            card: (336, 460),
-            parts: 1,
-            part: (493, 752),
-            id: 4,
-        },
-    ),
-    (
-        2,
-        Lent {
-            cards: 0,
-            card: (0, 0),
-            parts: 2,
-            part: (471, 730),
-            id: 5,
-        },
-    ),
-    (
-        3,
-        Lent {
-            cards: 0,
-            card: (0, 0),
-            parts: 2,
-            part: (503, 762),
-            id: 5,
-        },
-    ),
-    (
-        4,
-        Lent {
-            cards: 1,
-            card: (179, 303),
-            parts: 1,
-            part: (303, 562),
-            id: 0,
-        },
-    ),
-    (
-        5,
-        Lent {
-            cards: 0,
-            card: (0, 0),
-            parts: 2,
-            part: (504, 763),
-            id: 5,
-        },
-    ),
-    (
-        6,
-        Lent {
-            cards: 0,
-            card: (0, 0),
-            parts: 1,
-            part: (212, 471),
-            id: 4,
-        },
-    ),
-    (
-        7,
-        Lent {
-            cards: 0,
-            card: (0, 0),
-            parts: 0,
-            part: (0, 0),
-            id: 0,
-        },
-    ),
+// A kind of set 2, and what its packet lends: how many cards, and where the last begins; how many parts, where the
+// last begins, and what its member's id is filled with. Where there is none, the place is 0.
+const LENT: [(u8, (u8, usize), (u8, usize, u8)); 7] = [
+    (1, (2, 336), (1, 493, 4)),
+    (2, (0, 0), (2, 471, 5)),
+    (3, (0, 0), (2, 503, 5)),
+    (4, (1, 179), (1, 303, 0)),
+    (5, (0, 0), (2, 504, 5)),
+    (6, (0, 0), (1, 212, 4)),
+    (7, (0, 0), (0, 0, 0)),
 ];
 
-// Whether what a view lends are the slices at their places.
-fn lends(bytes: &[u8], lent: Lent) -> Option<bool> {
-    let Lent {
-        cards,
-        card,
-        parts,
-        part,
-        id,
-    } = lent;
-    let packet = PacketView::parse(bytes).ok()?;
-    let header = packet.header();
-    let mut same = packet.bytes() == bytes && packet.cards() == cards && packet.parts() == parts;
-    if cards > 0 && packet.cards() == cards {
-        same = same && Some(packet.card(cards - 1).bytes()) == bytes.get(card.0..card.1);
-    }
-    if parts > 0 && packet.parts() == parts {
-        let (member, lent) = packet.part(parts - 1);
-        let same_bytes = [id; 32];
-        let wanted = if header.kind() == Kind::Add {
-            bytes.get(78..110)
-        } else {
-            Some(same_bytes.as_slice())
-        };
-        same = same
-            && Some(lent) == bytes.get(part.0..part.1)
-            && Some(member.0.0.as_slice()) == wanted;
-    }
-    let behind = bytes.len().checked_sub(2348)?;
-    Some(same && Some(packet.signature()) == bytes.get(behind..))
+// So many bytes from a place on.
+fn slice(bytes: &[u8], from: usize, size: usize) -> Option<&[u8]> {
+    bytes.get(from..)?.get(..size)
 }
 
-// Whether the history of an add is its two cards and its two headers, by number and in a walk.
-fn lends_history(bytes: &[u8], from: usize) -> Option<bool> {
-    let packet = PacketView::parse(bytes).ok()?;
-    let history = packet.history()?;
-    if history.cards() != 2 || history.rows() != 2 {
+fn last_card<'a>(packet: &PacketView<'a>) -> Option<&'a [u8]> {
+    let count = packet.cards();
+    if count == 0 {
+        return None;
+    }
+    Some(packet.card(count - 1).bytes())
+}
+
+fn last_part<'a>(packet: &PacketView<'a>) -> Option<(MemberId, &'a [u8])> {
+    let count = packet.parts();
+    if count == 0 {
+        return None;
+    }
+    Some(packet.part(count - 1))
+}
+
+// Whether a packet lends all its bytes, and the signature at their end.
+fn lends_ends(bytes: &[u8]) -> Option<bool> {
+    let packet = view(bytes).ok()?;
+    let signature = slice(bytes, bytes.len().checked_sub(2348)?, 2348);
+    Some(packet.bytes() == bytes && Some(packet.signature()) == signature)
+}
+
+// Whether a packet lends so many cards, of which the last begins at a place.
+fn lends_cards(bytes: &[u8], count: u8, from: usize) -> Option<bool> {
+    let packet = view(bytes).ok()?;
+    let card = if count == 0 {
+        None
+    } else {
+        slice(bytes, from, 124)
+    };
+    Some(packet.cards() == count && last_card(&packet) == card)
+}
+
+// Whether a packet lends so many parts, of which the last begins at a place, and is for a member whose id is filled
+// with a byte. That of an add is for its target.
+fn lends_parts(bytes: &[u8], count: u8, from: usize, id: u8) -> Option<bool> {
+    let packet = view(bytes).ok()?;
+    if packet.parts() != count {
         return Some(false);
     }
-    let cards = bytes.get(from..from.checked_add(248)?);
-    let rows = bytes.get(from.checked_add(250)?..from.checked_add(464)?)?;
+    let Some((member, part)) = last_part(&packet) else {
+        return Some(count == 0);
+    };
+    let filled = [id; 32];
+    let is_add = packet.header().kind() == Kind::Add;
+    let id = if is_add {
+        slice(bytes, 78, 32)
+    } else {
+        Some(filled.as_slice())
+    };
+    Some(Some(member.0.0.as_slice()) == id && Some(part) == slice(bytes, from, 259))
+}
+
+fn history_card<'a>(history: &HistoryView<'a>, index: u8) -> Option<&'a [u8]> {
+    if index >= history.cards() {
+        return None;
+    }
+    Some(history.card(index).bytes())
+}
+
+fn history_row<'a>(history: &HistoryView<'a>, index: u16) -> Option<&'a [u8]> {
+    if index >= history.rows() {
+        return None;
+    }
+    Some(history.row(index).bytes())
+}
+
+// What a walk meets that skips the first header, where it meets one header and no other.
+fn walked<'a>(history: &HistoryView<'a>) -> Option<&'a [u8]> {
     let mut walk = history.all_rows();
     if walk.count() > 0 {
         walk.skip();
     }
-    let walked = walk.next()?.bytes() == rows.get(109..)? && walk.next().is_none();
-    Some(
-        walked
-            && Some(history.card(0).bytes()) == cards?.get(..124)
-            && Some(history.card(1).bytes()) == cards?.get(124..)
-            && Some(history.row(0).bytes()) == rows.get(2..107)
-            && Some(history.row(1).bytes()) == rows.get(109..214),
-    )
+    let row = walk.next()?;
+    if walk.next().is_some() {
+        return None;
+    }
+    Some(row.bytes())
 }
 
+// Whether the history of an add is its two cards and its two headers, by number and in a walk.
+fn lends_history(bytes: &[u8]) -> Option<bool> {
+    let history = view(bytes).ok()?.history()?;
+    if history.cards() != 2 || history.rows() != 2 {
+        return Some(false);
+    }
+    for (lent, from, size) in [
+        (history_card(&history, 0), 563, 124),
+        (history_card(&history, 1), 687, 124),
+        (history_row(&history, 0), 815, 105),
+        (history_row(&history, 1), 922, 105),
+        (walked(&history), 922, 105),
+    ] {
+        if lent.is_none() || lent != slice(bytes, from, size) {
+            return Some(false);
+        }
+    }
+    Some(true)
+}
+
+fn text<'a>(packet: &PacketView<'a>) -> Option<(&'a [u8], &'a [u8; 32])> {
+    packet.text()
+}
+
+// Whether a packet lends the sealed text and the tag behind it, and has no history.
 fn lends_text(bytes: &[u8]) -> Option<bool> {
-    let packet = PacketView::parse(bytes).ok()?;
-    let (body, tag) = packet.text()?;
-    Some(body == [0x61; 5].as_slice() && tag == &[0x74; 32] && packet.history().is_none())
+    let packet = view(bytes).ok()?;
+    let (body, tag) = text(&packet)?;
+    if packet.history().is_some() {
+        return Some(false);
+    }
+    Some(Some(body) == slice(bytes, 149, 5) && Some(tag.as_slice()) == slice(bytes, 154, 32))
 }
 
 #[test]
 fn lends_slices_of_the_packet(rt: HostRuntime) -> Result<(), Fail> {
     let alloc = rt.alloc();
-    for (kind, lent) in LENT {
-        let bytes = packet_of(alloc, kind, &body(alloc, kind)?)?;
-        assert_eq!(rt; lends(&bytes, lent), Some(true), "kind {kind}");
+    for (kind, (cards, card), (parts, part, id)) in LENT {
+        let bytes = packet_of(alloc, kind)?;
         let history = if kind == 4 { Some(true) } else { None };
-        assert_eq!(rt;
-            lends_history(&bytes, 563),
-            history,
-            "history of kind {kind}"
-        );
         let text = if kind == 7 { Some(true) } else { None };
+        assert_eq!(rt; lends_ends(&bytes), Some(true), "kind {kind}");
+        assert_eq!(rt;
+            lends_cards(&bytes, cards, card),
+            Some(true),
+            "cards of kind {kind}"
+        );
+        assert_eq!(rt;
+            lends_parts(&bytes, parts, part, id),
+            Some(true),
+            "parts of kind {kind}"
+        );
+        assert_eq!(rt; lends_history(&bytes), history, "history of kind {kind}");
         assert_eq!(rt; lends_text(&bytes), text, "text of kind {kind}");
     }
     Ok(())

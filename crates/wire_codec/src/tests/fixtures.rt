@@ -1,5 +1,4 @@
 use crate::*;
-use group_fields::Bytes;
 use sha2::{Digest as Hasher, Sha256};
 use std::alloc::{AllocError, Global};
 
@@ -9,40 +8,90 @@ pub const TAGS: [u8; 33] = [
     24, 16, 25, 10, 19, 8, 28,
 ];
 
-// Appends so many bytes of one value.
-pub fn fill(bytes: &mut Vec<u8>, value: u8, count: usize) -> Result<(), AllocError> {
+// Bytes of a fixture: those of a slice, or one byte so many times.
+#[derive(Clone, Copy)]
+pub enum Piece<'a> {
+    Bytes(&'a [u8]),
+    Fill(u8, usize),
+}
+
+use Piece::{Bytes, Fill};
+
+fn fill(bytes: &mut Vec<u8>, value: u8, count: usize) -> Result<(), AllocError> {
     for _ in 0..count {
         bytes.push(value)?;
     }
     Ok(())
 }
 
-// Appends a card, whose fields of any value are filled with its tag.
-pub fn card(bytes: &mut Vec<u8>, set: u8, tag: u8) -> Result<(), AllocError> {
-    bytes.extend_from_slice(&[0x43, 1, set, 0, 0, 0, 6, 0, 0, 0, 3])?;
-    fill(bytes, tag, if set == 1 { 1238 } else { 113 })
+fn append_piece(bytes: &mut Vec<u8>, piece: Piece<'_>) -> Result<(), AllocError> {
+    match piece {
+        Bytes(some) => bytes.extend_from_slice(some),
+        Fill(value, count) => fill(bytes, value, count),
+    }
 }
 
-pub fn cards(alloc: Global, set: u8, tags: &[u8]) -> Result<Vec<u8>, AllocError> {
+// Appends the pieces, one behind the other.
+fn append(bytes: &mut Vec<u8>, pieces: &[Piece<'_>]) -> Result<(), AllocError> {
+    for piece in pieces {
+        append_piece(bytes, *piece)?;
+    }
+    Ok(())
+}
+
+// The pieces, one behind the other.
+pub fn spelled(alloc: Global, pieces: &[Piece<'_>]) -> Result<Vec<u8>, AllocError> {
+    let mut bytes = Vec::new(alloc);
+    append(&mut bytes, pieces)?;
+    Ok(bytes)
+}
+
+fn count_of(items: &[u8]) -> u8 {
+    u8::try_from(items.len()).unwrap_or(u8::MAX)
+}
+
+pub fn digest_of(bytes: &[u8]) -> [u8; 32] {
+    Sha256::digest(bytes)
+}
+
+// Appends a card, whose fields of any value are filled with its tag.
+fn append_card(bytes: &mut Vec<u8>, set: u8, tag: u8) -> Result<(), AllocError> {
+    let front = [0x43, 1, set, 0, 0, 0, 6, 0, 0, 0, 3];
+    let rest = if set == 1 { 1238 } else { 113 };
+    append(bytes, &[Bytes(&front), Fill(tag, rest)])
+}
+
+pub fn card(alloc: Global, set: u8, tag: u8) -> Result<Vec<u8>, AllocError> {
+    let mut bytes = Vec::new(alloc);
+    append_card(&mut bytes, set, tag)?;
+    Ok(bytes)
+}
+
+// The cards of set 2 with these tags.
+fn cards(alloc: Global, tags: &[u8]) -> Result<Vec<u8>, AllocError> {
     let mut bytes = Vec::new(alloc);
     for tag in tags {
-        card(&mut bytes, set, *tag)?;
+        append_card(&mut bytes, 2, *tag)?;
     }
     Ok(bytes)
 }
 
-// Appends a part.
-pub fn part(bytes: &mut Vec<u8>, set: u8, value: u8) -> Result<(), AllocError> {
-    bytes.push(1)?;
-    fill(bytes, value, if set == 1 { 4032 } else { 258 })
+// The id of the card of set 2 with a tag.
+fn id(alloc: Global, tag: u8) -> Result<[u8; 32], AllocError> {
+    let card = card(alloc, 2, tag)?;
+    Ok(digest_of(&card))
 }
 
-// A count, and parts for members with these ids, each an id of equal bytes.
-pub fn parts(alloc: Global, set: u8, ids: &[u8]) -> Result<Vec<u8>, AllocError> {
-    let mut bytes = vec![in alloc; u8::try_from(ids.len()).unwrap_or(u8::MAX)]?;
+// Appends a part of set 2 for a member whose id is filled with one byte, as its part is.
+fn append_part(bytes: &mut Vec<u8>, id: u8) -> Result<(), AllocError> {
+    append(bytes, &[Fill(id, 32), Fill(1, 1), Fill(id, 258)])
+}
+
+// A count, and the parts of set 2 for these members.
+pub fn parts(alloc: Global, ids: &[u8]) -> Result<Vec<u8>, AllocError> {
+    let mut bytes = vec![in alloc; count_of(ids)]?;
     for id in ids {
-        fill(&mut bytes, *id, 32)?;
-        part(&mut bytes, set, *id)?;
+        append_part(&mut bytes, *id)?;
     }
     Ok(bytes)
 }
@@ -54,70 +103,92 @@ pub fn header(
     kind: u8,
     target: &[u8],
     predecessors: u8,
-    digest: &[u8; 32],
+    digest: [u8; 32],
 ) -> Result<Vec<u8>, AllocError> {
-    let mut bytes = vec![in alloc; 0x48, 1, set]?;
-    fill(&mut bytes, 0x11, 32)?;
-    fill(&mut bytes, 0x22, 32)?;
-    bytes.extend_from_slice(&[0, 0, 0, 5, kind])?;
-    bytes.extend_from_slice(target)?;
-    bytes.push(predecessors)?;
-    if predecessors == 1 {
-        fill(&mut bytes, 0x33, 32)?;
+    spelled(
+        alloc,
+        &[
+            Bytes(&[0x48, 1, set]),
+            Fill(0x11, 32),
+            Fill(0x22, 32),
+            Bytes(&[0, 0, 0, 5, kind]),
+            Bytes(target),
+            Fill(predecessors, 1),
+            Fill(0x33, if predecessors == 1 { 32 } else { 0 }),
+            Bytes(&digest),
+        ],
+    )
+}
+
+// A header of 105 bytes.
+fn row(alloc: Global) -> Result<Vec<u8>, AllocError> {
+    header(alloc, 1, 7, &[], 0, [7; 32])
+}
+
+// A count of so many headers, and these, each behind its length.
+fn rows(alloc: Global, count: u16) -> Result<Vec<u8>, AllocError> {
+    let row = row(alloc)?;
+    let mut bytes = spelled(alloc, &[Bytes(&count.to_be_bytes())])?;
+    for _ in 0..count {
+        append(&mut bytes, &[Bytes(&[0, 105]), Bytes(&row)])?;
     }
-    bytes.extend_from_slice(digest)?;
     Ok(bytes)
 }
 
-// A count and cards of set 2; a count and so many headers of 105 bytes, each behind its length.
-pub fn history(alloc: Global, tags: &[u8], rows: u16) -> Result<Vec<u8>, AllocError> {
-    let mut bytes = vec![in alloc; u8::try_from(tags.len()).unwrap_or(u8::MAX)]?;
-    bytes.extend_from_slice(&cards(alloc, 2, tags)?)?;
-    bytes.extend_from_slice(&rows.to_be_bytes())?;
-    let row = header(alloc, 1, 7, &[], 0, &[7; 32])?;
-    for _ in 0..rows {
-        bytes.extend_from_slice(&[0, 105])?;
-        bytes.extend_from_slice(&row)?;
-    }
-    Ok(bytes)
+// A count and cards of set 2, and a count and so many headers.
+fn history(alloc: Global, tags: &[u8], count: u16) -> Result<Vec<u8>, AllocError> {
+    let cards = cards(alloc, tags)?;
+    let rows = rows(alloc, count)?;
+    spelled(
+        alloc,
+        &[Fill(count_of(tags), 1), Bytes(&cards), Bytes(&rows)],
+    )
 }
 
 // The body of an add of set 2 that adds the member with this card.
-pub fn add_body(alloc: Global, tag: u8, history: &[u8]) -> Result<Vec<u8>, AllocError> {
-    let mut bytes = Vec::new(alloc);
-    card(&mut bytes, 2, tag)?;
-    part(&mut bytes, 2, 9)?;
-    bytes.extend_from_slice(history)?;
+fn add_body(alloc: Global, tag: u8, history: &[u8]) -> Result<Vec<u8>, AllocError> {
+    let mut bytes = card(alloc, 2, tag)?;
+    append(&mut bytes, &[Fill(1, 1), Fill(9, 258), Bytes(history)])?;
     Ok(bytes)
 }
 
 // The body of a text.
 pub fn text_body(alloc: Global, length: u16) -> Result<Vec<u8>, AllocError> {
-    let mut bytes = Vec::new(alloc);
-    bytes.extend_from_slice(&length.to_be_bytes())?;
-    fill(&mut bytes, 0x61, length as usize)?;
-    fill(&mut bytes, 0x74, 32)?;
-    Ok(bytes)
-}
-
-// A count, and the ids of the cards of set 2 with these tags.
-pub fn ids(alloc: Global, tags: &[u8]) -> Result<Vec<u8>, AllocError> {
-    let mut bytes = Vec::new(alloc);
-    for tag in tags {
-        let card = cards(alloc, 2, &[*tag])?;
-        bytes.extend_from_slice(&Sha256::digest(&card))?;
-    }
-    Ok(bytes)
+    spelled(
+        alloc,
+        &[
+            Bytes(&length.to_be_bytes()),
+            Fill(0x61, length as usize),
+            Fill(0x74, 32),
+        ],
+    )
 }
 
 // A signature of an LMS type.
 pub fn signature(alloc: Global, lms_type: u8) -> Result<Vec<u8>, AllocError> {
-    let mut bytes = vec![in alloc; 0, 0, 0, 4, 0, 0, 0, 3]?;
-    fill(&mut bytes, 1, 32)?;
-    fill(&mut bytes, 2, 2144)?;
-    bytes.extend_from_slice(&[0, 0, 0, lms_type])?;
-    fill(&mut bytes, 3, if lms_type == 5 { 160 } else { 320 })?;
-    Ok(bytes)
+    spelled(
+        alloc,
+        &[
+            Bytes(&[0, 0, 0, 4, 0, 0, 0, 3]),
+            Fill(1, 32),
+            Fill(2, 2144),
+            Bytes(&[0, 0, 0, lms_type]),
+            Fill(3, if lms_type == 5 { 160 } else { 320 }),
+        ],
+    )
+}
+
+// The bytes of a packet, joined of its parts.
+pub fn joined(
+    alloc: Global,
+    header: &[u8],
+    body: &[u8],
+    signature: &[u8],
+) -> Result<Vec<u8>, AllocError> {
+    if header.len() >= 65536 || body.len() >= 4_294_967_296 {
+        return Ok(Vec::new(alloc));
+    }
+    Ok(write_packet(alloc, header, body, signature)?.into_vec())
 }
 
 // The packet of a message with this target and body.
@@ -128,32 +199,22 @@ pub fn packet(
     target: &[u8],
     body: &[u8],
 ) -> Result<Vec<u8>, AllocError> {
-    let header = header(alloc, set, kind, target, 1, &Sha256::digest(body))?;
+    let header = header(alloc, set, kind, target, 1, digest_of(body))?;
     let signature = signature(alloc, if set == 1 { 6 } else { 5 })?;
-    if header.len() < 65536 && body.len() < 4_294_967_296 {
-        let bytes = write_packet(alloc, &header, body, &signature)?;
-        Ok(bytes.into_vec())
-    } else {
-        Ok(Vec::new(alloc))
-    }
+    joined(alloc, &header, body, &signature)
 }
 
 // The target of a kind, where the create names the members of two cards, and the add that of a third.
 pub fn target(alloc: Global, kind: u8) -> Result<Vec<u8>, AllocError> {
     match kind {
         1 => {
-            let mut bytes = vec![in alloc; 2]?;
-            bytes.extend_from_slice(&ids(alloc, &[TAGS[0], TAGS[1]])?)?;
-            Ok(bytes)
+            let first = id(alloc, TAGS[0])?;
+            let second = id(alloc, TAGS[1])?;
+            spelled(alloc, &[Fill(2, 1), Bytes(&first), Bytes(&second)])
         }
-        3 => vec![in alloc; 8; 32],
-        4 => ids(alloc, &[TAGS[2]]),
-        5 => {
-            let mut bytes = vec![in alloc; 8; 32]?;
-            bytes.push(1)?;
-            Ok(bytes)
-        }
-        6 => vec![in alloc; 8; 32],
+        3 | 6 => spelled(alloc, &[Fill(8, 32)]),
+        4 => spelled(alloc, &[Bytes(&id(alloc, TAGS[2])?)]),
+        5 => spelled(alloc, &[Fill(8, 32), Fill(1, 1)]),
         _ => Ok(Vec::new(alloc)),
     }
 }
@@ -162,56 +223,55 @@ pub fn target(alloc: Global, kind: u8) -> Result<Vec<u8>, AllocError> {
 pub fn body(alloc: Global, kind: u8) -> Result<Vec<u8>, AllocError> {
     match kind {
         1 => {
-            let mut bytes = cards(alloc, 2, &[TAGS[0], TAGS[1]])?;
-            bytes.extend_from_slice(&parts(alloc, 2, &[4])?)?;
-            Ok(bytes)
+            let cards = cards(alloc, &[TAGS[0], TAGS[1]])?;
+            let parts = parts(alloc, &[4])?;
+            spelled(alloc, &[Bytes(&cards), Bytes(&parts)])
         }
         4 => {
             let history = history(alloc, &[TAGS[0], TAGS[1]], 2)?;
             add_body(alloc, TAGS[2], &history)
         }
-        6 => parts(alloc, 2, &[4]),
+        6 => parts(alloc, &[4]),
         7 => text_body(alloc, 5),
-        _ => parts(alloc, 2, &[4, 5]),
+        _ => parts(alloc, &[4, 5]),
     }
 }
 
-// The packet of a kind of set 2 with this body.
-pub fn packet_of(alloc: Global, kind: u8, body: &[u8]) -> Result<Vec<u8>, AllocError> {
-    packet(alloc, 2, kind, &target(alloc, kind)?, body)
+// The packet of a kind of set 2.
+pub fn packet_of(alloc: Global, kind: u8) -> Result<Vec<u8>, AllocError> {
+    let target = target(alloc, kind)?;
+    let body = body(alloc, kind)?;
+    packet(alloc, 2, kind, &target, &body)
+}
+
+// The packet that the bytes spell. It has no clause, so that a test carries none of it.
+pub fn view(bytes: &[u8]) -> Result<PacketView<'_>, Malformed> {
+    PacketView::parse(bytes)
 }
 
 // The place at which bytes are refused as a packet.
 pub fn refused_at(bytes: &[u8]) -> Option<u32> {
-    match PacketView::parse(bytes) {
+    match view(bytes) {
         Ok(_) => None,
         Err(Malformed(place)) => Some(place),
     }
 }
 
-pub fn digest_of(bytes: &[u8]) -> [u8; 32] {
-    Sha256::digest(bytes)
-}
-
-// The bytes of a packet, joined of its parts.
-pub fn joined(
+// The place at which a packet is refused that is joined of these.
+pub fn refused_joined(
     alloc: Global,
     header: &[u8],
     body: &[u8],
     signature: &[u8],
-) -> Result<Vec<u8>, AllocError> {
-    if header.len() < 65536 && body.len() < 4_294_967_296 {
-        let bytes = write_packet(alloc, header, body, signature)?;
-        Ok(bytes.into_vec())
-    } else {
-        Ok(Vec::new(alloc))
-    }
+) -> Result<Option<u32>, AllocError> {
+    let bytes = joined(alloc, header, body, signature)?;
+    Ok(refused_at(&bytes))
 }
 
 // A body of set 2 that a test asks about.
 #[derive(Clone, Copy, Debug)]
 pub enum Case {
-    // parts of a kind for the members 1 to so many
+    // parts of a kind for so many members
     Parts(u8, u8),
     // an update with parts for these two members
     Order(u8, u8),
@@ -237,56 +297,78 @@ fn tag(index: usize) -> u8 {
     TAGS.get(index).copied().unwrap_or(0)
 }
 
-// The kind and the body of a case.
-pub fn case_body(alloc: Global, case: Case) -> Result<(u8, Vec<u8>), AllocError> {
-    Ok(match case {
-        Case::Parts(kind, count) => {
-            let mut ids = Vec::new(alloc);
-            for id in 0..count {
-                ids.push(id)?;
-            }
-            (kind, parts(alloc, 2, &ids)?)
-        }
-        Case::Order(first, second) => (2, parts(alloc, 2, &[first, second])?),
-        Case::Text(length) => (7, text_body(alloc, length)?),
-        Case::Create(first, second) => {
-            let mut body = cards(alloc, 2, &[tag(first), tag(second)])?;
-            body.push(0)?;
-            (1, body)
-        }
-        Case::OtherSet => (1, cards(alloc, 1, &[1])?),
-        Case::Add(index) => (4, add_body(alloc, tag(index), &[0, 0, 0])?),
+fn kind_of(case: Case) -> u8 {
+    match case {
+        Case::Parts(kind, _) => kind,
+        Case::Order(_, _) => 2,
+        Case::Text(_) => 7,
+        Case::Create(_, _) | Case::OtherSet => 1,
+        _ => 4,
+    }
+}
+
+// The members from 0 on, so many of them.
+fn first_members(alloc: Global, count: u8) -> Result<Vec<u8>, AllocError> {
+    let mut ids = Vec::new(alloc);
+    for id in 0..count {
+        ids.push(id)?;
+    }
+    Ok(ids)
+}
+
+// A history of two cards that do not ascend, of which the second has another version.
+fn history_with_version(alloc: Global) -> Result<Vec<u8>, AllocError> {
+    let mut history = history(alloc, &[TAGS[1], TAGS[0]], 0)?;
+    if let Some(version) = history.get_mut(126) {
+        *version = 2;
+    }
+    Ok(history)
+}
+
+// A history of one header, with this length before it, and one byte more.
+fn history_with_length(alloc: Global, length: u8) -> Result<Vec<u8>, AllocError> {
+    let row = row(alloc)?;
+    spelled(
+        alloc,
+        &[Bytes(&[0, 0, 1, 0, length]), Bytes(&row), Fill(0, 1)],
+    )
+}
+
+// The history that the add of a case hands on.
+fn history_of(alloc: Global, case: Case) -> Result<Vec<u8>, AllocError> {
+    match case {
         Case::History(count, rows) => {
             let tags = TAGS.get(..count).unwrap_or(&TAGS);
-            (4, add_body(alloc, TAGS[2], &history(alloc, tags, rows)?)?)
+            history(alloc, tags, rows)
         }
-        Case::Cards(first, second) => {
-            let tags = [tag(first), tag(second)];
-            (4, add_body(alloc, TAGS[2], &history(alloc, &tags, 0)?)?)
+        Case::Cards(first, second) => history(alloc, &[tag(first), tag(second)], 0),
+        Case::CardInside => history_with_version(alloc),
+        Case::Row(length) => history_with_length(alloc, length),
+        _ => history(alloc, &[], 0),
+    }
+}
+
+// The body of a case.
+fn body_of(alloc: Global, case: Case) -> Result<Vec<u8>, AllocError> {
+    match case {
+        Case::Parts(_, count) => parts(alloc, &first_members(alloc, count)?),
+        Case::Order(first, second) => parts(alloc, &[first, second]),
+        Case::Text(length) => text_body(alloc, length),
+        Case::Create(first, second) => {
+            let cards = cards(alloc, &[tag(first), tag(second)])?;
+            spelled(alloc, &[Bytes(&cards), Fill(0, 1)])
         }
-        Case::CardInside => {
-            let mut history = history(alloc, &[TAGS[1], TAGS[0]], 0)?;
-            if let Some(version) = history.get_mut(126) {
-                *version = 2;
-            }
-            (4, add_body(alloc, TAGS[2], &history)?)
-        }
-        Case::Row(length) => {
-            let mut history = history(alloc, &[], 1)?;
-            if let Some(low) = history.get_mut(4) {
-                *low = length;
-            }
-            history.push(0)?;
-            (4, add_body(alloc, TAGS[2], &history)?)
-        }
-    })
+        Case::OtherSet => card(alloc, 1, 1),
+        Case::Add(index) => add_body(alloc, tag(index), &history_of(alloc, case)?),
+        _ => add_body(alloc, TAGS[2], &history_of(alloc, case)?),
+    }
 }
 
 // Where the packet of a case is refused, counted from its body.
 pub fn refused_case(alloc: Global, case: Case) -> Result<Option<u32>, AllocError> {
-    let (kind, body) = case_body(alloc, case)?;
+    let kind = kind_of(case);
     let target = target(alloc, kind)?;
-    let before = u32::try_from(target.len()).unwrap_or(0);
-    let bytes = packet(alloc, 2, kind, &target, &body)?;
-    Ok(refused_at(&bytes).map(|place| place.saturating_sub(before.saturating_add(147))))
+    let before = u32::try_from(target.len()).unwrap_or(0).saturating_add(147);
+    let bytes = packet(alloc, 2, kind, &target, &body_of(alloc, case)?)?;
+    Ok(refused_at(&bytes).map(|place| place.saturating_sub(before)))
 }
