@@ -1,10 +1,17 @@
 //! Two sides that exchange parts, against an independent reading of the rules: which key a part is sealed to, and that
 //! it opens to its payload.
+ghost use Rattle.std.specs.Prelude.{◌≡◌, ◌%◌, Bool, true, false, cond, Option, Some, None, List, ℕ, length, nat_eq};
+ghost use Rattle.std.specs.Prelude.{replicate, refl, bytes_eq};
+ghost use Rattle.std.specs.Option.{option_map, option_map_or};
+ghost use Rattle.std.proofs.Common.{ap, sym, inr, ◌∙◌};
+ghost use Rattle.std.proofs.lemmas.Slice.Eq.{bytes_eq-Decides};
+ghost use Rattle.kem_trait.specs.Encapsulated.{Encapsulated};
+
 use crate::own_key::OwnKey;
 use crate::{Pairing, PartDraw, PartDraws, draw_parts};
-use group_fields::{Bytes, Digest, MemberId};
+use group_fields::{Bytes, Digest, MemberId, Memory};
 use hkdf_seal::{kdf, seal};
-use kem_trait::{Kem, SeedWords, Words};
+use kem_trait::{Kem, KemRefusal, SeedWords, Words};
 use ntru_prime::{Drill37, Sntrup761};
 use std::alloc::Global;
 use std::test::Fail;
@@ -690,5 +697,176 @@ fn drawn_once(alloc: Global) -> Result<bool, Fail> {
 #[test]
 fn draws_are_taken_once(rt: HostRuntime) -> Result<(), Fail> {
     assert!(rt; drawn_once(rt.alloc())?);
+    Ok(())
+}
+
+/// The one pair of the set.
+#[derive(Drop)]
+struct ZeroPair;
+
+/// A set whose words give a usable key exactly where the first of them is even: there is one pair, and its keys, its
+/// ciphertexts and its shared key are zeros. It stands for the words of the others that give none, which are too rare
+/// to be met.
+struct EvenFirst;
+
+impl Kem for EvenFirst {
+    ghost SET = { 2 };
+
+    ghost PUBLIC_LEN = { 33 };
+
+    ghost SECRET_LEN = { 95 };
+
+    ghost CIPHER_LEN = { 58 };
+
+    const SET: u8 = 2;
+
+    const PUBLIC_LEN: usize = 33;
+
+    const SECRET_LEN: usize = 95;
+
+    const CIPHER_LEN: usize = 58;
+
+    type Pair = ZeroPair;
+
+    ghost made = { λ words. cond (nat_eq (words 0 % 2) 0) (Some (replicate 95 0)) None };
+
+    ghost pair_words = { λ words. 1 };
+
+    ghost is_secret = { λ secret. bytes_eq secret (replicate 95 0) };
+
+    ghost public_in = { λ secret. replicate 33 0 };
+
+    ghost is_public = { λ public. bytes_eq public (replicate 33 0) };
+
+    ghost encapsulated = { λ public words. Some (record { cipher = replicate 58 0; key = replicate 32 0 }) };
+
+    ghost cipher_words = { 0 };
+
+    ghost decapsulated = { λ secret cipher. Some (replicate 32 0) };
+
+    ghost secret_key = { λ pair. replicate 95 0 };
+
+    ghost has_set_lengths = { inr (refl, refl, refl, refl) };
+
+    ghost pairs_are_tested = { λ pair. refl };
+
+    ghost made_is_tested = { λ words secret is.
+        let tested : Option (List ℕ) → Bool = λ o. option_map_or (λ s. bytes_eq s (replicate 95 0)) o true in
+        let made_tested : (b : Bool) → tested (cond b (Some (replicate 95 0)) None) ≡ true =
+        elim [ true ↦ refl | false ↦ refl ] in
+        sym (ap tested is) ∙ made_tested (nat_eq (words 0 % 2) 0) };
+
+    ghost public_is_public = { λ secret is. refl };
+
+    ghost decapsulates = { λ secret words e is sealed. ap (option_map (λ (e : Encapsulated). e.key)) sealed };
+
+    ghost secrets_have_length = { λ secret is. ap length ((bytes_eq-Decides secret (replicate 95 0)).0 is) };
+
+    ghost publics_have_length = { λ public is. ap length ((bytes_eq-Decides public (replicate 33 0)).0 is) };
+
+    ghost encapsulates = { λ public words is. refl };
+
+    ghost ciphers_have_length = { λ public words e is. (
+      sym (ap (λ (o : Option Encapsulated). option_map_or (λ (e : Encapsulated). length e.cipher) o 58) is),
+      sym (ap (λ (o : Option Encapsulated). option_map_or (λ (e : Encapsulated). length e.key) o 32) is),
+    ) };
+
+    fn make<W: Words>(_alloc: Global, words: &mut W) -> Result<ZeroPair, KemRefusal> {
+        if words.next() % 2 == 0 {
+            return Ok(ZeroPair);
+        }
+        Err(KemRefusal::NoUsableKey)
+    }
+
+    fn pair_from_secret(_alloc: Global, secret: &[u8]) -> Result<Option<ZeroPair>, Memory> {
+        if secret == [0; 95].as_slice() {
+            return Ok(Some(ZeroPair));
+        }
+        Ok(None)
+    }
+
+    fn secret(_pair: &ZeroPair, into: &mut [u8]) {
+        into.copy_from_slice(&[0; 95]);
+    }
+
+    fn public(_pair: &ZeroPair, into: &mut [u8]) {
+        into.copy_from_slice(&[0; 33]);
+    }
+
+    fn public_ok(public: &[u8]) -> bool {
+        public == [0; 33].as_slice()
+    }
+
+    fn encap<W: Words>(_public: &[u8], _words: &mut W, cipher: &mut [u8]) -> [u8; 32] {
+        cipher.copy_from_slice(&[0; 58]);
+        [0; 32]
+    }
+
+    fn decap(_pair: &ZeroPair, _cipher: &[u8]) -> Option<[u8; 32]> {
+        Some([0; 32])
+    }
+}
+
+/// Members by the byte of their ids, and whether parts are drawn for them by the seed of number 2. By that seed the first
+/// words of 1 are odd for the own pair alone, those of 5 for the other's alone, and those of 2 and 4 for neither.
+/// Computed by Python's hmac and hashlib and a ChaCha20 of its own.
+const USABLE: [(&[u8], bool); 9] = [
+    (&[], true),
+    (&[2], true),
+    (&[1], false),
+    (&[5], false),
+    (&[1, 2, 4], false),
+    (&[2, 1, 4], false),
+    (&[2, 4, 5], false),
+    (&[1, 5], false),
+    (&[2, 4], true),
+];
+
+fn members_of(alloc: Global, bytes: &[u8]) -> Result<Vec<MemberId>, Fail> {
+    let mut members = Vec::new(alloc);
+    for byte in bytes {
+        members.push(MemberId(Digest([*byte; 32])))?;
+    }
+    Ok(members)
+}
+
+/// Draws for members. None where the words of some pair give no usable key.
+fn drawn_or_none(alloc: Global, bytes: &[u8]) -> Result<Option<PartDraws<EvenFirst>>, Fail> {
+    let members = members_of(alloc, bytes)?;
+    match draw_parts::<EvenFirst>(alloc, &seed(2), members.as_slice()) {
+        Ok(draws) => Ok(Some(draws)),
+        Err(KemRefusal::NoUsableKey) => Ok(None),
+        Err(KemRefusal::Memory) => Err(Fail::new("memory was wanting")),
+    }
+}
+
+/// Whether there are draws for each of the members.
+fn takes_all(draws: &mut PartDraws<EvenFirst>, bytes: &[u8]) -> bool {
+    let mut right = true;
+    for byte in bytes {
+        right = right && draws.take(&MemberId(Digest([*byte; 32]))).is_some();
+    }
+    right
+}
+
+/// Whether members have their draws, each of them, or the words of some pair give no usable key.
+fn is_usable(alloc: Global, bytes: &[u8], usable: bool) -> Result<bool, Fail> {
+    match drawn_or_none(alloc, bytes)? {
+        Some(mut draws) => Ok(usable && takes_all(&mut draws, bytes)),
+        None => Ok(!usable),
+    }
+}
+
+fn unusable_words_are_told(alloc: Global) -> Result<bool, Fail> {
+    let mut right = true;
+    for (bytes, usable) in USABLE {
+        right = right && is_usable(alloc, bytes, usable)?;
+    }
+    Ok(right)
+}
+
+#[test]
+fn draws_want_usable_keys(rt: HostRuntime) -> Result<(), Fail> {
+    assert!(rt; unusable_words_are_told(rt.alloc())?);
     Ok(())
 }
