@@ -124,6 +124,17 @@ fn meet_own(alloc: Global, book: &mut Drill) -> Result<(), Fail> {
     Ok(book.meet(alloc, 0, None)?)
 }
 
+/// Meets the own place second.
+fn meet_own_second(alloc: Global, book: &mut Drill) -> Result<(), Fail> {
+    if book.met() != 1 {
+        return Err(Fail::new("the own place is the second here"));
+    }
+    match book.sends(0) {
+        Some(_) => Ok(book.meet(alloc, 1, None)?),
+        None => Err(Fail::new("the own place was met before")),
+    }
+}
+
 /// Meets the member whose pair is made by the seed of a number.
 fn meet(alloc: Global, book: &mut Drill, number: u32) -> Result<(), Fail> {
     let place = book.met();
@@ -140,6 +151,14 @@ fn was_met(book: &Drill, place: u8) -> bool
     ensures { result ≡ true → place < length book.now.places }
 {
     (place as usize) < book.met()
+}
+
+fn sends(book: &Drill, place: u8) -> Option<u32> {
+    if was_met(book, place) {
+        book.sends(place)
+    } else {
+        None
+    }
 }
 
 fn ratchet(book: &Drill, place: u8) -> Option<[u8; 32]> {
@@ -190,22 +209,31 @@ fn spend(book: &mut Drill, of: u8, place: u8) -> Option<[u8; 32]> {
     }
 }
 
-/// Whether the turns of a place are those of the table, and the other place stays.
-fn turns(book: &mut Drill) -> bool {
-    let mut right = ratchet(book, 1) == Some([0; 32]) && tag(book, 1).is_none();
+/// Whether the ratchets of these places are those that they were met with.
+fn are_fresh(book: &Drill, places: &[u8]) -> bool {
+    let mut fresh = true;
+    for place in places {
+        fresh = fresh && ratchet(book, *place) == Some([0; 32]);
+    }
+    fresh
+}
+
+/// Whether the turns of a place are those of the table, and the ratchets of others stay.
+fn turns(book: &mut Drill, place: u8, others: &[u8]) -> bool {
+    let mut right = ratchet(book, place) == Some([0; 32]) && tag(book, place).is_none();
     for turn in &TURNS {
         let handed = turn.handed;
         let input = turn.input;
         let secret = turn.secret;
         let after = turn.ratchet;
         let [first, second] = turn.tags;
-        hand(book, 1, handed);
+        hand(book, place, handed);
         right = right
-            && step(book, 1, input) == secret
-            && ratchet(book, 1) == after
-            && tag(book, 1) == first
-            && tag(book, 1) == second
-            && ratchet(book, 0) == Some([0; 32]);
+            && step(book, place, input) == secret
+            && ratchet(book, place) == after
+            && tag(book, place) == first
+            && tag(book, place) == second
+            && are_fresh(book, others);
     }
     right
 }
@@ -229,7 +257,7 @@ fn keeps(book: &mut Drill) -> Result<bool, Fail> {
 fn keys(alloc: Global, book: &mut Drill) -> Result<bool, Fail> {
     meet_own(alloc, book)?;
     meet(alloc, book, 2)?;
-    Ok(book.met() == 2 && turns(book) && keeps(book)?)
+    Ok(book.met() == 2 && turns(book, 1, &[0]) && keeps(book)?)
 }
 
 #[test]
@@ -316,6 +344,94 @@ fn parts_of_two_members(rt: HostRuntime) -> Result<(), Fail> {
     let right = story(rt.alloc(), &mut ada, &mut bob);
     ada.close();
     bob.close();
+    assert!(rt; right?);
+    Ok(())
+}
+
+/// The places of three members, of whom the second is the owner.
+fn meet_around(alloc: Global, book: &mut Drill) -> Result<bool, Fail> {
+    meet(alloc, book, 2)?;
+    meet_own_second(alloc, book)?;
+    meet(alloc, book, 3)?;
+    Ok(
+        book.met() == 3
+            && sends(book, 0) == Some(0)
+            && sends(book, 1).is_none()
+            && sends(book, 2) == Some(0),
+    )
+}
+
+/// Meets the own place first, and then the member whose pair is made by the seed of number 1.
+fn meet_ada(alloc: Global, book: &mut Drill) -> Result<(), Fail> {
+    meet_own(alloc, book)?;
+    meet(alloc, book, 1)
+}
+
+/// Whether the parts to the places on both sides of the own one are those of pairings of their own, and open there.
+fn sends_around(
+    alloc: Global,
+    ada: &mut Drill,
+    bob: &mut Drill,
+    cyd: &mut Drill,
+) -> Result<bool, Fail> {
+    let to_bob = seal(alloc, ada, 0, 11)?;
+    let to_cyd = seal(alloc, ada, 2, 12)?;
+    let again_to_cyd = seal(alloc, ada, 2, 13)?;
+    Ok(
+        to_bob.as_slice() == first_part(alloc, 1, 2, 11)?.as_slice()
+            && to_cyd.as_slice() == first_part(alloc, 1, 3, 12)?.as_slice()
+            && sends(ada, 0) == Some(1)
+            && sends(ada, 1).is_none()
+            && sends(ada, 2) == Some(2)
+            && open(alloc, bob, 1, to_bob.as_slice())? == Some(seed(11))
+            && open(alloc, cyd, 1, to_cyd.as_slice())? == Some(seed(12))
+            && open(alloc, cyd, 1, again_to_cyd.as_slice())? == Some(seed(13)),
+    )
+}
+
+/// Whether the answers open at the places of their senders alone.
+fn takes_around(
+    alloc: Global,
+    ada: &mut Drill,
+    bob: &mut Drill,
+    cyd: &mut Drill,
+) -> Result<bool, Fail> {
+    let of_bob = seal(alloc, bob, 1, 15)?;
+    let of_cyd = seal(alloc, cyd, 1, 16)?;
+    Ok(
+        open(alloc, ada, 2, of_bob.as_slice())?.is_none()
+            && open(alloc, ada, 0, of_cyd.as_slice())?.is_none()
+            && open(alloc, ada, 0, of_bob.as_slice())? == Some(seed(15))
+            && open(alloc, ada, 2, of_cyd.as_slice())? == Some(seed(16)),
+    )
+}
+
+/// The ratchets of a book whose owner was met second turn each by itself, and its parts are told apart.
+fn around(alloc: Global, ada: &mut Drill, bob: &mut Drill, cyd: &mut Drill) -> Result<bool, Fail> {
+    meet_ada(alloc, bob)?;
+    meet_ada(alloc, cyd)?;
+    Ok(
+        meet_around(alloc, ada)?
+            && turns(ada, 2, &[0, 1])
+            && sends_around(alloc, ada, bob, cyd)?
+            && turns(ada, 0, &[1])
+            && takes_around(alloc, ada, bob, cyd)?
+            && turns(ada, 1, &[]),
+    )
+}
+
+#[test]
+fn own_place_is_the_second(rt: HostRuntime) -> Result<(), Fail> {
+    let mine = pair(rt.alloc(), 1)?;
+    let second = pair(rt.alloc(), 2)?;
+    let third = pair(rt.alloc(), 3)?;
+    let mut ada = Book::start(rt.alloc(), mine);
+    let mut bob = Book::start(rt.alloc(), second);
+    let mut cyd = Book::start(rt.alloc(), third);
+    let right = around(rt.alloc(), &mut ada, &mut bob, &mut cyd);
+    ada.close();
+    bob.close();
+    cyd.close();
     assert!(rt; right?);
     Ok(())
 }
