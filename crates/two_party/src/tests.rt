@@ -807,8 +807,8 @@ impl Kem for EvenFirst {
     }
 }
 
-/// Members by the byte of their ids, and whether parts are drawn for them by the seed of number 2. By that seed the first
-/// words of 1 are odd for the own pair alone, those of 5 for the other's alone, and those of 2 and 4 for neither.
+/// Members by the byte of their ids, and whether parts are drawn for them by the seed of number 2. By that seed the
+/// first words of 1 are odd for the own pair alone, those of 5 for the other's alone, and those of 2 and 4 for neither.
 /// Computed by Python's hmac and hashlib and a ChaCha20 of its own.
 const USABLE: [(&[u8], bool); 9] = [
     (&[], true),
