@@ -217,22 +217,22 @@ struct Group {
     letters: Vec<Letter>,
 }
 
-/// Adds the person of a number to those before.
-fn add_person(alloc: Global, people: &mut Vec<Person>, number: u8) -> Result<(), Fail> {
+/// Adds a person to those before. ada may add everybody.
+fn add_person(alloc: Global, people: &mut Vec<Person>, who: u8) -> Result<(), Fail> {
     let inviter = match people.as_slice().first() {
         Some(ada) => ada.id,
         None => MemberId(Digest([0; 32])),
     };
-    let signs = number == 1 || number == 3;
-    people.push(new_person(alloc, number, inviter, signs, number != 5)?)?;
+    let signs = who == ADA || who == CYD;
+    let person = new_person(alloc, who.wrapping_add(1), inviter, signs, who != EVE)?;
+    people.push(person)?;
     Ok(())
 }
 
-/// The people. ada may add everybody.
 fn people(alloc: Global) -> Result<Vec<Person>, Fail> {
     let mut list = Vec::new(alloc);
-    for number in 1..6 {
-        add_person(alloc, &mut list, number)?;
+    for who in [ADA, BOB, CYD, DORA, EVE] {
+        add_person(alloc, &mut list, who)?;
     }
     Ok(list)
 }
@@ -500,6 +500,7 @@ fn first_wrong(alloc: Global, group: &Group) -> Result<Option<usize>, Fail> {
     Ok(None)
 }
 
+/// The number of the first case that is judged otherwise, in a new group.
 fn wrong_case(alloc: Global) -> Result<Option<usize>, Fail> {
     let group = new_group(alloc)?;
     first_wrong(alloc, &group)
@@ -569,6 +570,7 @@ fn first_amiss(alloc: Global, group: &Group) -> Result<Option<usize>, Fail> {
     Ok(None)
 }
 
+/// The number of the first row that is answered otherwise, in a new group.
 fn wrong_answer(alloc: Global) -> Result<Option<usize>, Fail> {
     let group = new_group(alloc)?;
     first_amiss(alloc, &group)
