@@ -1,0 +1,3 @@
+mod Crowds
+mod KeptAnswers
+mod Moves

@@ -1,0 +1,526 @@
+//! What a member takes of the messages of a group of three: the update secrets that it learns, and the ratchets that it
+//! knows then, against the definition of a ratchet's step.
+ghost use Rattle.std.specs.Prelude.{◌≡◌, ◌<◌, ◌∷◌, ◌↔◌, ℕ, IsTrue, IsSome, true, length};
+ghost use Rattle.causal_history.specs.Rows.{history_of};
+ghost use Rattle.group_fields.specs.declared.header.Target.{Target as TargetWords};
+ghost use Rattle.group_messages.specs.Messages.{kind_by, message_of};
+ghost use Rattle.group_model.specs.Marks.{IsPlace};
+ghost use Rattle.group_model.specs.Membership.{IsSeeded, ids_named};
+ghost use Rattle.group_model.specs.Messages.{Stands};
+ghost use Rattle.group_model.specs.Sets.{Id, In};
+ghost use Rattle.member_view.specs.Crowds.{StandsWell};
+ghost use Rattle.secret_book.specs.HeldBooks.{held};
+ghost use Rattle.group_ops.specs.Taking.{IsAck};
+
+use crate::{take_ack, take_seeded};
+use causal_history::{History, rows_are_messages};
+use group_fields::{
+    Bytes, Card, Cards, Digest, GroupId, Header, HeaderView, Ids, Kind, MemberId, MessageId,
+    Target, read_card, read_header, write_card, write_header,
+};
+use group_messages::named_ids_are_few;
+use hkdf_seal::{expand, extract, kdf};
+use kem_trait::{Kem, SeedWords};
+use member_view::{Act, RemoveWins, act_of, place_with};
+use ntru_prime::Drill37;
+use opened_parts::{Taken, sender_place};
+use secret_book::Book;
+use std::alloc::Global;
+use std::test::Fail;
+use two_party::{PartDraw, draw_parts};
+
+type Drill = Book<Drill37>;
+
+const ADDRESSEE: MemberId = MemberId(Digest([9; 32]));
+
+/// The ratchet before a first step.
+const EMPTY: [u8; 32] = [0; 32];
+
+// ---- keys
+
+/// 32 bytes for each number.
+fn seed(number: u8) -> [u8; 32] {
+    kdf(&[7; 32], b"seed", &[number])
+}
+
+/// The update secret of a ratchet's step by an input, and the ratchet after it: 64 bytes of HKDF, by their definition.
+fn stepped(ratchet: &[u8; 32], input: &[u8; 32]) -> ([u8; 32], [u8; 32]) {
+    let mut output = [0; 64];
+    expand(&extract(ratchet, input), b"ratchet", &mut output);
+    let mut secret = [0; 32];
+    let mut next = [0; 32];
+    secret.copy_from_slice(&output[..32]);
+    next.copy_from_slice(&output[32..]);
+    (secret, next)
+}
+
+/// The first step of a member by its secret under a seed.
+fn first_step(seed: &[u8; 32], id: &[u8; 32]) -> ([u8; 32], [u8; 32]) {
+    stepped(&EMPTY, &kdf(seed, b"member", id))
+}
+
+fn pair(alloc: Global, number: u8) -> Result<<Drill37 as Kem>::Pair, Fail> {
+    Ok(Drill37::make(alloc, &mut SeedWords::new(&seed(number)))?)
+}
+
+fn draw(alloc: Global, number: u8) -> Result<PartDraw<Drill37>, Fail> {
+    let mut draws = draw_parts::<Drill37>(alloc, &seed(number), &[ADDRESSEE])?;
+    match draws.take(&ADDRESSEE) {
+        Some(draw) => Ok(draw),
+        None => Err(Fail::new("nothing was drawn for a member of the list")),
+    }
+}
+
+// ---- books
+
+/// Meets the own place first.
+fn meet_own(alloc: Global, book: &mut Drill) -> Result<(), Fail> {
+    if book.met() != 0 {
+        return Err(Fail::new("the own place is the first here"));
+    }
+    Ok(book.meet(alloc, 0, None)?)
+}
+
+/// Meets the member whose pair is made by the seed of a number.
+fn meet(alloc: Global, book: &mut Drill, number: u8) -> Result<(), Fail> {
+    let place = book.met();
+    let theirs = pair(alloc, number)?;
+    let mut public = vec![in alloc; 0; Drill37::PUBLIC_LEN]?;
+    Drill37::public(&theirs, public.as_mut_slice());
+    if place > 255 || !Drill37::public_ok(public.as_slice()) {
+        return Err(Fail::new("no place, or the public key of a pair is none"));
+    }
+    Ok(book.meet(alloc, place as u8, Some(public.as_slice()))?)
+}
+
+fn was_met(book: &Drill, place: u8) -> bool
+    ensures { result ≡ true → place < length book.now.places }
+{
+    (place as usize) < book.met()
+}
+
+fn ratchet(book: &Drill, place: u8) -> Option<[u8; 32]> {
+    if was_met(book, place) {
+        book.ratchet(place)
+    } else {
+        None
+    }
+}
+
+/// The part of a member to the first one, with a payload.
+fn sealed(alloc: Global, book: &mut Drill, payload: &[u8; 32], number: u8) -> Result<Bytes, Fail> {
+    meet_own(alloc, book)?;
+    meet(alloc, book, 0)?;
+    if !was_met(book, 1) {
+        return Err(Fail::new("a place that was not met"));
+    }
+    match book.sends(1) {
+        Some(sends) if sends < u32::MAX => {}
+        _ => return Err(Fail::new("the own place, or too many parts")),
+    }
+    let draw = draw(alloc, number)?;
+    Ok(book.seal_to(alloc, 1, payload, draw)?)
+}
+
+/// The first part of a member to the first one, whose pair is made by the seed 0.
+fn part_of(alloc: Global, number: u8, payload: &[u8; 32]) -> Result<Bytes, Fail> {
+    let mut book = Book::start(alloc, pair(alloc, number)?);
+    let part = sealed(alloc, &mut book, payload, number);
+    book.close();
+    part
+}
+
+// ---- messages
+
+fn card_bytes(alloc: Global, number: u8) -> Result<Bytes, Fail> {
+    let mut lms_public = [number; 56];
+    lms_public[..8].copy_from_slice(&[0, 0, 0, 5, 0, 0, 0, 3]);
+    let card = Card {
+        set: 2,
+        lms_public,
+        inviter: MemberId(Digest([0; 32])),
+        kem_public: Bytes::copy_of(alloc, &[number; 33])?,
+    };
+    if !card.has_spelling() {
+        return Err(Fail::new("a card that has no spelling"));
+    }
+    Ok(write_card(alloc, &card)?)
+}
+
+/// The ids of three members, in their order.
+fn all_ids(alloc: Global) -> Result<Vec<[u8; 32]>, Fail> {
+    let mut ids = Vec::new(alloc);
+    for number in 0..3 {
+        let bytes = card_bytes(alloc, number)?;
+        match read_card(bytes.as_slice()) {
+            Ok(card) => ids.push(card.id().0.0)?,
+            Err(_) => return Err(Fail::new("a card that can't be read")),
+        }
+    }
+    ids.sort()?;
+    Ok(ids)
+}
+
+fn push_card(alloc: Global, cards: &mut Cards, id: &[u8; 32]) -> Result<(), Fail> {
+    for number in 0..3 {
+        let bytes = card_bytes(alloc, number)?;
+        if let Ok(card) = read_card(bytes.as_slice()) {
+            if card.id().0.0 == *id {
+                cards.push(&card)?;
+            }
+        }
+    }
+    Ok(())
+}
+
+fn id_at(ids: &[[u8; 32]], place: u8) -> [u8; 32] {
+    ids.get(place as usize).copied().unwrap_or([0; 32])
+}
+
+/// A message of the member at a place, with one predecessor or none.
+fn message(
+    alloc: Global,
+    sender: [u8; 32],
+    kind: Kind,
+    target: Target,
+    before: Option<MessageId>,
+) -> Result<Bytes, Fail> {
+    let mut predecessors = Ids::new(alloc);
+    if let Some(id) = before {
+        predecessors.push(id.0)?;
+    }
+    let header = Header {
+        set: 2,
+        group: GroupId(Digest([9; 32])),
+        sender: MemberId(Digest(sender)),
+        seq: 1,
+        kind,
+        target,
+        predecessors,
+        body: Digest([7; 32]),
+    };
+    if !header.has_spelling() {
+        return Err(Fail::new("a header that has no spelling"));
+    }
+    Ok(write_header(alloc, &header)?)
+}
+
+fn create(alloc: Global, sender: [u8; 32], ids: &[[u8; 32]]) -> Result<Bytes, Fail> {
+    let mut list = Ids::new(alloc);
+    for id in ids {
+        list.push(Digest(*id))?;
+    }
+    message(alloc, sender, Kind::Create, Target::Members(list), None)
+}
+
+fn message_id(bytes: &[u8]) -> Result<MessageId, Fail> {
+    match read_header(bytes) {
+        Ok(header) => Ok(header.id()),
+        Err(_) => Err(Fail::new("a header that can't be read")),
+    }
+}
+
+fn push(history: &mut History, bytes: &[u8], cards: &Cards) -> Result<(), Fail> {
+    let Ok(header) = read_header(bytes) else {
+        return Err(Fail::new("a header that can't be read"));
+    };
+    if !history.may_push(&header, cards)? {
+        return Err(Fail::new("a row that may not be pushed"));
+    }
+    Ok(history.push(&header, cards)?)
+}
+
+// ---- what the calls ask
+
+fn is_seeded(kind: Kind) -> bool
+    ensures { (target : TargetWords) → IsTrue result ↔ IsSeeded (kind_by kind target) }
+{
+    match kind {
+        Kind::Create | Kind::Update | Kind::Remove => true,
+        Kind::Add | Kind::Ack | Kind::AddAck | Kind::Text => false,
+    }
+}
+
+fn stands_well(history: &History, header: &HeaderView<'_>) -> bool
+    ensures { IsTrue result → StandsWell (history_of history.now) (message_of header.now) (message_of header.now).kind }
+{
+    rows_are_messages();
+    match act_of(header) {
+        Act::Create(_) => history.count() == 0,
+        _ => true,
+    }
+}
+
+fn is_new(history: &History, header: &HeaderView<'_>) -> bool
+    ensures { IsTrue result → Stands (history_of history.now) (message_of header.now).id → ⊥ }
+{
+    history.find(&header.id()).is_none()
+}
+
+/// Whether the book has met exactly the members that the history and the message name.
+fn all_met(history: &History, header: &HeaderView<'_>, book: &Drill) -> bool
+    ensures { IsTrue result
+        → length (ids_named (message_of header.now ∷ history_of history.now)) ≡ length book.now.places }
+{
+    rows_are_messages();
+    named_ids_are_few();
+    let _bytes = header.bytes();
+    match act_of(header) {
+        Act::Create(ids) => history.count() == 0 && ids.count() as usize == book.met(),
+        Act::Add(_) => false,
+        _ => history.places() as usize == book.met(),
+    }
+}
+
+fn is_placed(history: &History, header: &HeaderView<'_>) -> bool
+    ensures { IsTrue result
+        → In (message_of header.now).sender (ids_named (message_of header.now ∷ history_of history.now)) }
+{
+    match place_with(history, Some(header), &header.sender()) {
+        Some(_) => true,
+        None => false,
+    }
+}
+
+/// Whether the sender's place has a pairing.
+fn is_paired(history: &History, header: &HeaderView<'_>, book: &Drill) -> bool
+    requires { In (message_of header.now).sender (ids_named (message_of header.now ∷ history_of history.now)) }
+    ensures { IsTrue result → (p : ℕ)
+        → IsPlace (ids_named (message_of header.now ∷ history_of history.now)) p (message_of header.now).sender
+        → IsSome ((held book.now).pairing p) }
+{
+    let place = sender_place(history, header);
+    if !was_met(book, place) {
+        return false;
+    }
+    match book.sends(place) {
+        Some(_) => true,
+        None => false,
+    }
+}
+
+fn refused() -> Fail {
+    Fail::new("a message that may not be taken")
+}
+
+fn take(
+    alloc: Global,
+    book: &mut Drill,
+    history: &History,
+    bytes: &[u8],
+    part: Option<&[u8]>,
+    own_seed: Option<&[u8; 32]>,
+) -> Result<Taken, Fail> {
+    let Ok(header) = read_header(bytes) else {
+        return Err(refused());
+    };
+    if history.missing(&header).is_some() || !is_seeded(header.kind()) {
+        return Err(refused());
+    }
+    if !stands_well(history, &header) || !is_new(history, &header) {
+        return Err(refused());
+    }
+    if !all_met(history, &header, book) || !is_placed(history, &header) {
+        return Err(refused());
+    }
+    if part.is_some() && !is_paired(history, &header, book) {
+        return Err(refused());
+    }
+    Ok(take_seeded::<Drill37, RemoveWins>(alloc, book, history, &header, part, own_seed)?)
+}
+
+fn is_ack(kind: Kind) -> bool
+    ensures { (target : TargetWords) → IsTrue result → IsAck (kind_by kind target) }
+{
+    match kind {
+        Kind::Ack => true,
+        _ => false,
+    }
+}
+
+fn answer(
+    alloc: Global,
+    book: &mut Drill,
+    history: &History,
+    bytes: &[u8],
+    part: Option<&[u8]>,
+) -> Result<Option<[u8; 32]>, Fail> {
+    let Ok(header) = read_header(bytes) else {
+        return Err(refused());
+    };
+    if !is_ack(header.kind()) || !all_met(history, &header, book) {
+        return Err(refused());
+    }
+    if !is_placed(history, &header) {
+        return Err(refused());
+    }
+    if part.is_some() && !is_paired(history, &header, book) {
+        return Err(refused());
+    }
+    Ok(take_ack(alloc, book, history, &header, part)?)
+}
+
+// ---- stories: members 0, 1 and 2 in the order of their ids, of whom the first takes
+
+/// A group of three, made by the member at a place, before and behind its create.
+#[derive(Drop)]
+struct Group {
+    ids: Vec<[u8; 32]>,
+    create: Bytes,
+    before: History,
+    behind: History,
+}
+
+fn new_group(alloc: Global, maker: u8) -> Result<Group, Fail> {
+    let ids = all_ids(alloc)?;
+    let mut cards = Cards::new(alloc);
+    for id in ids.as_slice() {
+        push_card(alloc, &mut cards, id)?;
+    }
+    let create = create(alloc, id_at(ids.as_slice(), maker), ids.as_slice())?;
+    let mut behind = History::new(alloc);
+    push(&mut behind, create.as_slice(), &cards)?;
+    Ok(Group {
+        ids,
+        create,
+        before: History::new(alloc),
+        behind,
+    })
+}
+
+fn member(group: &Group, place: u8) -> [u8; 32] {
+    id_at(group.ids.as_slice(), place)
+}
+
+/// Takes the create, and tells what that says.
+fn take_create(
+    alloc: Global,
+    book: &mut Drill,
+    group: &Group,
+    part: Option<&[u8]>,
+    own_seed: Option<&[u8; 32]>,
+) -> Result<(bool, Option<[u8; 32]>), Fail> {
+    let bytes = group.create.as_slice();
+    let taken = take(alloc, book, &group.before, bytes, part, own_seed)?;
+    Ok((taken.took, taken.learned))
+}
+
+/// Takes the ack of an operation by the member at a place.
+fn take_answer(
+    alloc: Global,
+    book: &mut Drill,
+    group: &Group,
+    place: u8,
+    operation: &[u8],
+    took: bool,
+    part: Option<&[u8]>,
+) -> Result<Option<[u8; 32]>, Fail> {
+    let of = message_id(operation)?;
+    let target = Target::Answer(of, took);
+    let bytes = message(alloc, member(group, place), Kind::Ack, target, Some(of))?;
+    answer(alloc, book, &group.behind, bytes.as_slice(), part)
+}
+
+/// The book of the first member, which met all three.
+fn met_all(alloc: Global, book: &mut Drill) -> Result<(), Fail> {
+    meet_own(alloc, book)?;
+    meet(alloc, book, 1)?;
+    meet(alloc, book, 2)
+}
+
+/// A create whose part opens: each answer gives the secret of its member, once, and one without `took` gives none.
+fn knows_the_seed(alloc: Global, book: &mut Drill) -> Result<bool, Fail> {
+    met_all(alloc, book)?;
+    let group = new_group(alloc, 1)?;
+    let part = part_of(alloc, 1, &seed(20))?;
+    let maker = first_step(&seed(20), &member(&group, 1));
+    let own = first_step(&seed(20), &member(&group, 0));
+    let create = group.create.as_slice();
+    let taken = take_create(alloc, book, &group, Some(part.as_slice()), None)?;
+    let right = taken == (true, Some(maker.0)) && ratchet(book, 1) == Some(maker.1);
+    let mine = take_answer(alloc, book, &group, 0, create, true, None)?;
+    let right = right && mine == Some(own.0) && ratchet(book, 0) == Some(own.1);
+    let refusal = take_answer(alloc, book, &group, 2, create, false, None)?;
+    let right = right && refusal.is_none() && ratchet(book, 2) == Some(EMPTY);
+    let late = take_answer(alloc, book, &group, 2, create, true, None)?;
+    Ok(right && late.is_none() && ratchet(book, 2).is_none())
+}
+
+/// A create without a part that opens: its maker's ratchet is forgotten, and an answer's secret is known only where it
+/// was forwarded.
+fn lacks_the_seed(alloc: Global, book: &mut Drill, part: Option<&[u8]>) -> Result<bool, Fail> {
+    met_all(alloc, book)?;
+    let group = new_group(alloc, 1)?;
+    let create = group.create.as_slice();
+    let taken = take_create(alloc, book, &group, part, None)?;
+    let right = taken == (false, None) && ratchet(book, 1).is_none();
+    let forward = part_of(alloc, 2, &seed(21))?;
+    let theirs = stepped(&EMPTY, &seed(21));
+    let told = take_answer(
+        alloc,
+        book,
+        &group,
+        2,
+        create,
+        true,
+        Some(forward.as_slice()),
+    )?;
+    let right = right && told == Some(theirs.0) && ratchet(book, 2) == Some(theirs.1);
+    let unknown = take_answer(alloc, book, &group, 0, create, true, None)?;
+    Ok(right && unknown.is_none() && ratchet(book, 0).is_none())
+}
+
+/// An own create, and the remove of the third member, which that member gets no part of.
+fn makes_and_hears(alloc: Global, book: &mut Drill) -> Result<bool, Fail> {
+    met_all(alloc, book)?;
+    let group = new_group(alloc, 0)?;
+    let own = first_step(&seed(22), &member(&group, 0));
+    let taken = take_create(alloc, book, &group, None, Some(&seed(22)))?;
+    let right = taken == (false, Some(own.0)) && ratchet(book, 0) == Some(own.1);
+    let before = message_id(group.create.as_slice())?;
+    let target = Target::Member(MemberId(Digest(member(&group, 2))));
+    let remove = message(alloc, member(&group, 1), Kind::Remove, target, Some(before))?;
+    let part = part_of(alloc, 1, &seed(23))?;
+    let maker = first_step(&seed(23), &member(&group, 1));
+    let part = Some(part.as_slice());
+    let taken = take(alloc, book, &group.behind, remove.as_slice(), part, None)?;
+    let right = right && taken.took && taken.learned == Some(maker.0);
+    let mine = stepped(&own.1, &kdf(&seed(23), b"member", &member(&group, 0)));
+    let answered = take_answer(alloc, book, &group, 0, remove.as_slice(), true, None)?;
+    let right = right && answered == Some(mine.0) && ratchet(book, 0) == Some(mine.1);
+    let outside = take_answer(alloc, book, &group, 2, remove.as_slice(), true, None)?;
+    Ok(right && outside.is_none() && ratchet(book, 2).is_none())
+}
+
+fn new_book(alloc: Global) -> Result<Drill, Fail> {
+    Ok(Book::start(alloc, pair(alloc, 0)?))
+}
+
+#[test]
+fn takes_of_who_knows_the_seed(rt: HostRuntime) -> Result<(), Fail> {
+    let mut book = new_book(rt.alloc())?;
+    let right = knows_the_seed(rt.alloc(), &mut book);
+    book.close();
+    assert!(rt; right?);
+    Ok(())
+}
+
+#[test]
+fn takes_of_who_lacks_the_seed(rt: HostRuntime) -> Result<(), Fail> {
+    for part in [None, Some(b"no part".as_slice())] {
+        let mut book = new_book(rt.alloc())?;
+        let right = lacks_the_seed(rt.alloc(), &mut book, part);
+        book.close();
+        assert!(rt; right?);
+    }
+    Ok(())
+}
+
+#[test]
+fn takes_of_an_own_create_and_a_remove(rt: HostRuntime) -> Result<(), Fail> {
+    let mut book = new_book(rt.alloc())?;
+    let right = makes_and_hears(rt.alloc(), &mut book);
+    book.close();
+    assert!(rt; right?);
+    Ok(())
+}
