@@ -1,1 +1,4 @@
+pub mod Each
 pub mod Gathered
+pub mod Sent
+pub mod Written
