@@ -8,11 +8,13 @@ use Rattle.std.proofs.lemmas.List.{take-append-drop, take-map, drop-map, length-
 use Rattle.std.proofs.lemmas.List.Edits.{length-insert}
 use Rattle.std.proofs.lemmas.Option.{slice_get_within}
 use Rattle.group_model.specs.Sets.{Id, In, here, there, IsAscending, IsDistinct}
-use Rattle.group_model.specs.Marks.{IsPlace}
+use Rattle.group_model.specs.Marks.{IsPlace, IsCrowd}
+use Rattle.group_model.specs.Membership.{AreAddressees, IsAddressee}
+use Rattle.group_model.specs.Messages.{History, Message}
 use Rattle.group_model.specs.Plain.{place}
 use Rattle.group_model.proofs.Ascending.{In-placed, into-ascending, into-placed}
 use Rattle.group_model.proofs.ListFacts.{test, yes_is, no_is, In-cases, In-either, In-head, In-left, In-right}
-use Rattle.group_model.proofs.Places.{place-distinct, place-one}
+use Rattle.group_model.proofs.Places.{in-place, place-distinct, place-one}
 use Rattle.body_parts.specs.declared.addressing.Receiver.{Receiver}
 use Rattle.body_parts.specs.Receivers.{ArePlaced, AreReceivers, id_to, ids_to}
 
@@ -152,3 +154,15 @@ module _ (ids : List Id) (bits : ℕ → Bool) (bound : ℕ) (to : List Receiver
     few = omega (arith, g.few, few);
     fewer = λ p l bit. let m : length to + 1 ≤ bound = g.fewer p (omega (arith, l, whole)) bit in omega (arith, m, few);
   }
+
+-- the receivers of a crowd are who has its property
+pub addressed : (rule : History → List Id) (h : History) (m : Message) (ids : List Id) (bits : ℕ → Bool) (to : List Receiver)
+    → AreReceivers ids bits to → IsCrowd ids bits (λ y. IsAddressee rule h m m.kind y)
+    → ((y : Id) → IsAddressee rule h m m.kind y → In y ids) → AreAddressees rule h m (ids_to to)
+addressed rule h m ids bits to r crowd named = record {
+  ascending = r.ascending;
+  all = λ y a. let p = in-place ids y (named y a) in r.all p.0 y p.1 ((crowd.each p.0 y p.1).1 a);
+  only = λ y i.
+      let w = whose to y i in
+      subst (λ (z : Id). IsAddressee rule h m m.kind z) w.2 ((crowd.each w.0.place (id_to w.0) (r.placed w.0 w.1)).0 (r.only w.0 w.1));
+}

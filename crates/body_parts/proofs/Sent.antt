@@ -1,8 +1,7 @@
 -- The parts that are made are those of the model, one for each receiver, and what is held stands for the book after them.
-use Rattle.std.proofs.Common.{◌≡◌, ◌≢◌, inl, inr, ℕ, suc, ◌<◌, ◌-◌, ◌^◌, Bool, true, false, cond, ◌&&◌, nat_eq, nat_lt, List, [], ◌∷◌, length, map, Option, Some, None, refl, sym, ◌∙◌, ap, subst, arith, option_map, bytes_eq, slice_get}
+use Rattle.std.proofs.Common.{◌≡◌, ◌≢◌, inl, inr, ℕ, suc, ◌<◌, ◌-◌, ◌^◌, Bool, true, false, cond, ◌&&◌, nat_eq, nat_lt, List, [], ◌∷◌, length, map, Option, Some, None, refl, sym, ◌∙◌, ap, subst, option_map, bytes_eq}
 use Rattle.std.specs.Prelude.{IsSome, IfSome, is_some, slice_index}
 use Rattle.std.specs.Option.{option_and_then}
-use Rattle.std.proofs.lemmas.Bool.{ne_eqb}
 use Rattle.std.proofs.lemmas.Option.{get_or_from_slice_get, slice_get_within}
 use Rattle.std.proofs.lemmas.Slice.Eq.{bytes_eq-Decides}
 use Rattle.kem_trait.specs.declared.kem.Kem.{Ghosts}
@@ -15,7 +14,7 @@ use Rattle.group_model.specs.Pairing.{Draws, Part, PairEvent, Sent, draws, part_
 use Rattle.group_model.specs.Parts.{parts_of}
 use Rattle.group_model.specs.Primitives.{KeyPair, Primitives}
 use Rattle.group_model.specs.Settings.{Owner}
-use Rattle.group_model.proofs.Ascending.{ascending-above, ascending-rest, below-not_self}
+use Rattle.group_model.proofs.Ascending.{ascending-above, below-not_self}
 use Rattle.group_model.proofs.ListFacts.{test, yes_is, no_is, other_id, has-In, In-cases, In-nothing, some_same}
 use Rattle.group_model.proofs.Places.{place-one}
 use Rattle.group_parts.specs.Parts.{IsSized, part_bytes, part_in, part_len, part_read}
@@ -25,7 +24,7 @@ use Rattle.member_book.specs.Books.{BookState, put}
 use Rattle.member_book.specs.BooksAfter.{part_by}
 use Rattle.member_book.specs.Calls.{sends_each}
 use Rattle.member_book.specs.PairStates.{PairState, PairStands, next_part}
-use Rattle.member_book.specs.Places.{PlacesServe, id_at, put_at}
+use Rattle.member_book.specs.Places.{PlacesServe, id_at}
 use Rattle.two_party.specs.Drawn.{Drawn, after_take, left_for}
 use Rattle.two_party.proofs.TakenOnce.{others-kept}
 use Rattle.secret_book.specs.HeldBooks.{HeldBook, sealed_at}
@@ -35,7 +34,7 @@ use Rattle.book_standing.proofs.Calls.{at_own}
 use Rattle.body_parts.specs.declared.addressing.Receiver.{Receiver}
 use Rattle.body_parts.specs.Receivers.{ArePlaced, id_to, ids_to}
 use Rattle.body_parts.specs.Sending.{AreDrawnFrom, AreMadeFor, CanSend, CanSendAll, IsSealedFor, SendsTo, given}
-use Rattle.body_parts.proofs.Gathered.{In-ids, whose}
+use Rattle.body_parts.proofs.Gathered.{In-ids}
 
 some_of : {A : Type 0} (o : Option A) → IsSome o → (a : A) × (o ≡ Some a)
 some_of None h = absurd (cc)
@@ -77,9 +76,11 @@ module _ (ids : List Id) (r : Receiver) (others : List Receiver) (placed : ArePl
       sym (ap (λ (rows : List Drawn). left_for rows (id_to q)) taken
       ∙ others-kept drawn (id_to r) (id_to q) (other_than (id_to q) (In-ids others q i))) in
       record {
-        met = subst (λ (n : ℕ). q.place < n) (sym met) was.met;
-        other = subst (λ (o : Option PairState). IsSome o) pairing was.other;
-        few = subst (λ (o : Option PairState). IfSome o (λ k. k.sends < 2 ^ 32 - 1)) pairing was.few;
+        reach = record {
+          met = subst (λ (n : ℕ). q.place < n) (sym met) was.reach.met;
+          other = subst (λ (o : Option PairState). IsSome o) pairing was.reach.other;
+          few = subst (λ (o : Option PairState). IfSome o (λ k. k.sends < 2 ^ 32 - 1)) pairing was.reach.few;
+        };
         draw = subst (λ (o : Option Draws). IsSome o) draw was.draw;
       }
 

@@ -1,5 +1,5 @@
 -- Parts that a member makes for receivers, from what its book holds. docs/GROUP.md, "Parts" and "The book of a member".
-use Rattle.std.specs.Prelude.{◌≡◌, ℕ, ◌≤◌, ◌<◌, ◌-◌, ◌^◌, Bool, List, [], ◌∷◌, length, map, Option, Some, None}
+use Rattle.std.specs.Prelude.{◌≡◌, ℕ, ◌≤◌, ◌<◌, ◌-◌, ◌^◌, Bool, List, [], length, map, Some, None}
 use Rattle.std.specs.Prelude.{IsSome, IfSome}
 use Rattle.std.specs.Option.{option_and_then}
 use Rattle.kem_trait.specs.declared.kem.Kem.{Ghosts}
@@ -24,12 +24,16 @@ use Rattle.book_standing.specs.Standing.{HeldStands}
 use Rattle.body_parts.specs.declared.addressing.Receiver.{Receiver}
 use Rattle.body_parts.specs.Receivers.{ArePlaced, AreReceivers, id_to, ids_to}
 
--- A part can be made for the member with the id at the place: it was met, it is not the own place, the numbers of its
--- keys aren't used up, and draws are left for it.
-pub record CanSend (b : HeldBook) (drawn : List Drawn) (p : ℕ) (id : Id) : Type 0 where
+-- The place was met, it is not the own one, and the numbers of its keys aren't used up.
+pub record CanReach (b : HeldBook) (p : ℕ) : Type 0 where
   pub met : p < b.met
   pub other : IsSome (b.pairing p)
   pub few : IfSome (b.pairing p) (λ k. k.sends < 2 ^ 32 - 1)
+
+-- A part can be made for the member with the id at the place.
+pub record CanSend (b : HeldBook) (drawn : List Drawn) (p : ℕ) (id : Id) : Type 0 where
+  pub reach : CanReach b p
+  -- draws are left for it
   pub draw : IsSome (left_for drawn id)
 
 -- a part can be made for each receiver

@@ -1,12 +1,16 @@
 //! Laws of parts that are made. Each function does nothing; its contract is the law.
 
-ghost use Rattle.std.specs.Prelude.{List, [], ◌∷◌};
+ghost use Rattle.std.specs.Prelude.{ℕ, Bool, List, [], ◌∷◌};
 ghost use Rattle.group_fields.specs.Layouts.{Spells};
 ghost use Rattle.wire_codec.specs.Packets.{part};
-ghost use Rattle.group_model.specs.Sets.{Bytes};
+ghost use Rattle.group_model.specs.Sets.{Bytes, Id, In};
+ghost use Rattle.group_model.specs.Marks.{IsCrowd};
+ghost use Rattle.group_model.specs.Membership.{AreAddressees, IsAddressee};
+ghost use Rattle.group_model.specs.Messages.{History, Message};
 ghost use Rattle.two_party.specs.Drawn.{Drawn};
 ghost use Rattle.secret_book.specs.HeldBooks.{HeldBook};
 ghost use Rattle.body_parts.specs.declared.addressing.Receiver.{Receiver};
+ghost use Rattle.body_parts.specs.Receivers.{AreReceivers, ids_to};
 ghost use Rattle.body_parts.specs.Sending.{AreMadeFor, IsSealedFor};
 
 use book_standing::calls_stand;
@@ -31,3 +35,10 @@ pub(crate) fn parts_are_the_models<K: Kem>()
     parts_are_spelled::<K>();
     parts_are_written::<K>();
 }
+
+/// The receivers of a message's crowd are its addressees, where each of these has its place.
+pub fn receivers_are_addressees()
+    ensures { (rule : History → List Id) (h : History) (m : Message) (ids : List Id) (bits : ℕ → Bool)
+        (to : List Receiver) → AreReceivers ids bits to → IsCrowd ids bits (λ y. IsAddressee rule h m m.kind y)
+        → ((y : Id) → IsAddressee rule h m m.kind y → In y ids) → AreAddressees rule h m (ids_to to) }
+{}

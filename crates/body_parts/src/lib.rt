@@ -2,8 +2,11 @@
 #![tactic(auto)]
 
 mod addressing;
+mod draws;
 mod laws;
 mod parts;
 
 pub use addressing::{Receiver, receivers};
-pub use parts::{append_part, append_parts, parts_body};
+pub use draws::draw_for;
+pub use laws::receivers_are_addressees;
+pub use parts::{append_part, append_parts, can_reach, parts_body};

@@ -1,6 +1,6 @@
 //! Parts, as a member makes them from its book.
 
-ghost use Rattle.std.specs.Prelude.{◌≡◌, ◌≢◌, ◌<◌, ◌≤◌, ◌++◌, ◌^◌, ℕ, true, List, [], ◌∷◌, length, IfOk, OnOk, Option};
+ghost use Rattle.std.specs.Prelude.{◌≡◌, ◌≢◌, ◌↔◌, ◌<◌, ◌≤◌, ◌++◌, ◌^◌, ℕ, true, List, [], ◌∷◌, length, IfOk, OnOk, Option, IsTrue};
 ghost use Rattle.group_fields.specs.Layouts.{bytes_of};
 ghost use Rattle.group_fields.specs.LayoutWrites.{Appends, ascends};
 ghost use Rattle.group_fields.specs.declared.ids.Digest.{Digest};
@@ -13,7 +13,7 @@ ghost use Rattle.causal_history.specs.Rows.{history_of};
 ghost use Rattle.two_party.specs.Drawn.{after_take};
 ghost use Rattle.secret_book.specs.HeldBooks.{held};
 ghost use Rattle.body_parts.specs.Receivers.{ArePlaced, digests_to, id_to, ids_to};
-ghost use Rattle.body_parts.specs.Sending.{AreMadeFor, CanSend, CanSendAll, IsPartsBody, IsSealedFor};
+ghost use Rattle.body_parts.specs.Sending.{AreMadeFor, CanReach, CanSend, CanSendAll, IsPartsBody, IsSealedFor};
 
 use crate::addressing::{Receiver, receivers};
 use crate::laws::parts_are_the_models;
@@ -24,6 +24,19 @@ use kem_trait::Kem;
 use secret_book::Book;
 use std::alloc::Global;
 use two_party::PartDraws;
+
+/// Whether parts can be sent to a place: it was met, it is not the own one, and fewer than 2^32 - 1 were sent to it.
+pub fn can_reach<K: Kem>(book: &Book<K>, place: u8) -> bool
+    ensures { IsTrue result ↔ CanReach (held book.now) place }
+{
+    if place as usize >= book.met() {
+        return false;
+    }
+    match book.sends(place) {
+        Some(sends) => sends < u32::MAX,
+        None => false,
+    }
+}
 
 // Seals a payload for a receiver, with what was drawn for it.
 fn seal_for<K: Kem>(

@@ -1,4 +1,4 @@
-use Rattle.std.proofs.Common.{List, sym, subst}
+use Rattle.std.proofs.Common.{sym, subst}
 use Rattle.group_fields.specs.Layouts.{Spells}
 use Rattle.wire_codec.specs.Packets.{part}
 use Rattle.group_model.specs.Sets.{Bytes}

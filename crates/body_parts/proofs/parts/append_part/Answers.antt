@@ -1,4 +1,4 @@
-use Rattle.std.proofs.Common.{◌≡◌, sym, subst}
+use Rattle.std.proofs.Common.{sym, subst}
 use Rattle.std.proofs.lemmas.Result.{on_ok_weaker}
 use Rattle.secret_book.specs.HeldBooks.{held}
 use Rattle.body_parts.specs.Sending.{IsSealedFor}

@@ -1,10 +1,8 @@
-use Rattle.std.proofs.Common.{◌≡◌, ◌≤◌, length, List, sym, ◌∙◌, ap, subst}
+use Rattle.std.proofs.Common.{◌≤◌, sym, subst}
 use Rattle.group_model.specs.Sets.{In}
 use Rattle.group_model.specs.Membership.{ids_named}
 use Rattle.causal_history.specs.Bits.{bit}
 use Rattle.causal_history.specs.Rows.{history_of}
-use Rattle.secret_book.specs.HeldBooks.{held}
-use Rattle.body_parts.specs.declared.addressing.Receiver.{Receiver}
 use Rattle.body_parts.specs.Receivers.{ArePlaced, AreReceivers, id_to}
 use Rattle.body_parts.proofs.Written.{body_spelled}
 use Rattle.body_parts.proofs.parts.parts_body.Goals as goal

@@ -7,7 +7,7 @@ use Rattle.body_parts.proofs.parts.seal_for.Goals as goal
 
 pub seal_to-requires-clause-met : goal.seal_to-requires-clause-met
 unfolding held
-seal_to-requires-clause-met g c = c.requires.met
+seal_to-requires-clause-met g c = c.requires.reach.met
 
 pub returns-clause-sealed : goal.returns-clause-sealed
 returns-clause-sealed g c =
