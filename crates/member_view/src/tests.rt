@@ -541,13 +541,17 @@ fn judged_first(alloc: Global, group: &mut Group) -> Result<Option<u8>, Memory> 
     judged(alloc, group, first.as_slice(), false)
 }
 
-// Draws 24 messages behind the first of the group, and counts their faults. Whether the two programs agree.
+// Whether the two programs agree on the first message, which is valid, and on 24 that are drawn behind it, whose faults
+// are counted.
 fn agree(
     alloc: Global,
     group: &mut Group,
     seed: u32,
     counts: &mut [u32; 7],
 ) -> Result<bool, Memory> {
+    if judged_first(alloc, group)? != Some(VALID) {
+        return Ok(false);
+    }
     let mut seed = seed;
     for _ in 0..24 {
         match judged_next(alloc, group, &mut seed)? {
@@ -558,10 +562,9 @@ fn agree(
     Ok(true)
 }
 
-// Whether the two programs agree on a drawn history, whose first message is valid.
 fn agree_from(alloc: Global, seed: u32, counts: &mut [u32; 7]) -> Result<bool, Memory> {
     let mut group = new_group(alloc)?;
-    Ok(judged_first(alloc, &mut group)? == Some(VALID) && agree(alloc, &mut group, seed, counts)?)
+    agree(alloc, &mut group, seed, counts)
 }
 
 // Draws histories, and counts the faults of all. The number of the first on which the two programs differ.
