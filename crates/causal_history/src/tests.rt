@@ -1,11 +1,12 @@
 //! Histories that are drawn, compared with the plain program of the model; what may not be pushed; and the limits.
 
+mod asked;
+mod fixtures;
+
 use crate::{Crowd, History, Marks, TextRow, Texts};
-use group_fields::{
-    Bytes, Card, Cards, Digest, GroupId, Header, HeaderView, Ids, Kind, MemberId, Memory,
-    MessageId, Target, read_card, read_header, write_card, write_header,
-};
-use group_model::plain::messages::{PlainKind, PlainMessage, has, heads, past};
+use fixtures::{card_id, card_ids, cards, header, in_order, plain_message};
+use group_fields::{Bytes, Cards, Digest, Ids, Kind, MemberId, Memory, MessageId, Target};
+use group_model::plain::messages::PlainMessage;
 use std::alloc::Global;
 use std::test::Fail;
 
@@ -15,7 +16,7 @@ struct World {
     alloc: Global,
     history: History,
     plain: Vec<PlainMessage>,
-    members: Vec<MemberId>,
+    members: Vec<Digest>,
     state: u64,
 }
 
@@ -30,110 +31,15 @@ fn draw(state: &mut u64, bound: u32) -> u32 {
     (*state >> 33) as u32 % bound
 }
 
-fn card_bytes(alloc: Global, number: u8) -> Result<Bytes, Memory> {
-    let mut lms_public = [number; 56];
-    for (at, byte) in [0, 0, 0, 5, 0, 0, 0, 3].iter().enumerate() {
-        lms_public[at] = *byte;
-    }
-    let card = Card {
-        set: 2,
-        lms_public,
-        inviter: MemberId(Digest([0; 32])),
-        kem_public: Bytes::copy_of(alloc, &[number; 33])?,
-    };
-    if !card.has_spelling() {
-        return Bytes::copy_of(alloc, &[]);
-    }
-    write_card(alloc, &card)
+fn first_of(members: &[Digest]) -> Digest {
+    members.get(0).copied().unwrap_or(Digest([0; 32]))
 }
 
-// Takes a card into a list, and its id.
-fn add_card(cards: &mut Cards, ids: &mut Vec<Digest>, bytes: &Bytes) -> Result<(), Memory> {
-    if let Ok(card) = read_card(bytes.as_slice()) {
-        cards.push(&card)?;
-        ids.push(card.id().0)?;
-    }
-    Ok(())
-}
-
-// The cards of the first so many members, in the order of their ids, with these ids.
-fn cards_of(alloc: Global, count: u8) -> Result<(Cards, Vec<Digest>), Memory> {
-    let mut order = Vec::new(alloc);
-    for number in 0..count {
-        let mut one = Cards::new(alloc);
-        let mut id = Vec::new(alloc);
-        add_card(&mut one, &mut id, &card_bytes(alloc, number)?)?;
-        for id in &id {
-            order.push((*id, number))?;
-        }
-    }
-    order.sort()?;
-    let mut cards = Cards::new(alloc);
-    let mut ids = Vec::new(alloc);
-    for (_, number) in &order {
-        add_card(&mut cards, &mut ids, &card_bytes(alloc, *number)?)?;
-    }
-    Ok((cards, ids))
-}
-
-fn header(
-    alloc: Global,
-    sender: MemberId,
-    seq: u32,
-    kind: Kind,
-    target: Target,
-    predecessors: Vec<Digest>,
-) -> Result<Bytes, Memory> {
-    let header = Header {
-        set: 2,
-        group: GroupId(Digest([9; 32])),
-        sender,
-        seq,
-        kind,
-        target,
-        predecessors: Ids::from(predecessors),
-        body: Digest([7; 32]),
-    };
-    if !header.has_spelling() {
-        return Bytes::copy_of(alloc, &[]);
-    }
-    write_header(alloc, &header)
-}
-
-fn plain_kind(alloc: Global, kind: Kind, target: &Target) -> Result<PlainKind, Memory> {
-    Ok(match (kind, target) {
-        (Kind::Create, Target::Members(ids)) => {
-            let mut members = Vec::new(alloc);
-            for id in ids.as_slice() {
-                members.push(id.0)?;
-            }
-            PlainKind::Create(members)
-        }
-        (Kind::Update, _) => PlainKind::Update,
-        (Kind::Remove, Target::Member(id)) => PlainKind::Remove(id.0.0),
-        (Kind::Add, Target::Member(id)) => PlainKind::Add(id.0.0),
-        (Kind::Ack, Target::Answer(id, took)) => PlainKind::Ack(id.0.0, *took),
-        (Kind::AddAck, Target::Answer(id, _)) => PlainKind::AddAck(id.0.0),
-        _ => PlainKind::Text,
-    })
-}
-
-fn plain_message(alloc: Global, view: &HeaderView<'_>) -> Result<PlainMessage, Memory> {
-    let header = view.to_header(alloc)?;
-    let mut predecessors = Vec::new(alloc);
-    for id in header.predecessors.as_slice() {
-        predecessors.push(id.0)?;
-    }
-    Ok(PlainMessage {
-        id: view.id().0.0,
-        set: header.set,
-        group: header.group.0.0,
-        sender: header.sender.0.0,
-        seq: header.seq,
-        kind: plain_kind(alloc, header.kind, &header.target)?,
-        predecessors,
-        body: header.body.0,
-    })
+// The create of a group of these members by the first of them.
+fn create(alloc: Global, members: &[Digest]) -> Result<Bytes, Memory> {
+    let sender = MemberId(first_of(members));
+    let target = Target::Members(Ids::from(members.to_vec(alloc)?));
+    header(alloc, sender, 1, Kind::Create, target, Vec::new(alloc))
 }
 
 impl World {
@@ -148,57 +54,47 @@ impl World {
     }
 
     // Pushes a row where it may be pushed, and answers whether it was.
-    fn push(&mut self, bytes: &Bytes, cards: &Cards) -> Result<bool, Memory> {
-        let Ok(view) = read_header(bytes.as_slice()) else {
+    fn push_row(&mut self, bytes: &Bytes, cards: &Cards) -> Result<bool, Memory> {
+        let Some(view) = asked::view(bytes) else {
             return Ok(false);
         };
-        if !self.history.may_push(&view, cards)? {
-            return Ok(false);
+        let pushed = asked::push(&mut self.history, &view, cards)?;
+        if pushed {
+            let message = plain_message(self.alloc, &view)?;
+            self.plain.insert(0, message)?;
         }
-        self.history.push(&view, cards)?;
-        let message = plain_message(self.alloc, &view)?;
-        self.plain.insert(0, message)?;
-        Ok(true)
+        Ok(pushed)
+    }
+
+    // The same with the cards with these numbers.
+    fn push(&mut self, bytes: &Bytes, numbers: &[u8]) -> Result<bool, Memory> {
+        let cards = cards(self.alloc, numbers)?;
+        self.push_row(bytes, &cards)
     }
 
     // Opens the group with the first so many members.
     fn create(&mut self, count: u8) -> Result<bool, Memory> {
-        let (cards, ids) = cards_of(self.alloc, count)?;
-        for id in &ids {
-            self.members.push(MemberId(*id))?;
-        }
-        let Some(sender) = self.members.get(0) else {
-            return Ok(false);
-        };
-        let target = Target::Members(Ids::from(ids));
-        let bytes = header(
-            self.alloc,
-            *sender,
-            1,
-            Kind::Create,
-            target,
-            Vec::new(self.alloc),
-        )?;
-        self.push(&bytes, &cards)
+        let numbers = in_order(self.alloc, count)?;
+        self.members = card_ids(self.alloc, &numbers)?;
+        let bytes = create(self.alloc, &self.members)?;
+        self.push(&bytes, &numbers)
+    }
+
+    // The id of the first row.
+    fn root(&self) -> Digest {
+        Digest(asked::id(&self.history, 0))
     }
 
     // The id of a row that is drawn.
     fn drawn_id(&mut self) -> Digest {
-        let count = self.history.count();
-        let index = draw(&mut self.state, count);
-        if index < count {
-            return self.history.id(index).0;
-        }
-        Digest([0; 32])
+        let index = draw(&mut self.state, asked::count(&self.history));
+        Digest(asked::id(&self.history, index))
     }
 
     fn drawn_member(&mut self) -> MemberId {
         let count = u32::try_from(self.members.len()).unwrap_or(0);
-        let index = draw(&mut self.state, count);
-        match self.members.get(index as usize) {
-            Some(id) => *id,
-            None => MemberId(Digest([0; 32])),
-        }
+        let index = draw(&mut self.state, count) as usize;
+        MemberId(self.members.get(index).copied().unwrap_or(Digest([0; 32])))
     }
 
     // One to three ids of rows, in ascending order.
@@ -214,12 +110,9 @@ impl World {
         Ok(ids)
     }
 
-    // Pushes a row that is drawn; `number` is for who is added.
-    fn drawn_row(&mut self, number: u8) -> Result<bool, Memory> {
-        let predecessors = self.drawn_predecessors()?;
-        let sender = self.drawn_member();
-        let mut cards = Cards::new(self.alloc);
-        let (kind, target) = match draw(&mut self.state, 6) {
+    // What a drawn row does, and its target; an add adds the member with the number.
+    fn drawn_target(&mut self, number: u8) -> Result<(Kind, Target), Memory> {
+        Ok(match draw(&mut self.state, 6) {
             0 => (Kind::Update, Target::Nothing),
             1 => (Kind::Remove, Target::Member(self.drawn_member())),
             2 => (
@@ -230,134 +123,109 @@ impl World {
                 Kind::AddAck,
                 Target::Answer(MessageId(self.drawn_id()), true),
             ),
-            4 => {
-                let mut ids = Vec::new(self.alloc);
-                add_card(&mut cards, &mut ids, &card_bytes(self.alloc, number)?)?;
-                match ids.get(0) {
-                    Some(id) => (Kind::Add, Target::Member(MemberId(*id))),
-                    None => (Kind::Text, Target::Nothing),
-                }
-            }
+            4 => (
+                Kind::Add,
+                Target::Member(MemberId(card_id(self.alloc, number)?)),
+            ),
             _ => (Kind::Text, Target::Nothing),
-        };
-        let bytes = header(
-            self.alloc,
-            sender,
-            u32::from(number),
-            kind,
-            target,
-            predecessors,
-        )?;
-        self.push(&bytes, &cards)
+        })
     }
 
-    // Whether the marks are the rows of the plain program's list.
-    fn marks_those(&self, marks: &Marks, rows: &[PlainMessage]) -> bool {
-        for index in 0..self.history.count() {
-            let id = self.history.id(index).0.0;
-            let there = rows.iter().any(|row| row.id == id);
-            if marks.has(index) != there {
+    // The bytes of a row that is drawn, and whether it is an add; that adds the member with the number.
+    fn drawn_header(&mut self, number: u8) -> Result<(Bytes, bool), Memory> {
+        let predecessors = self.drawn_predecessors()?;
+        let sender = self.drawn_member();
+        let (kind, target) = self.drawn_target(number)?;
+        let seq = u32::from(number);
+        let bytes = header(self.alloc, sender, seq, kind, target, predecessors)?;
+        Ok((bytes, kind == Kind::Add))
+    }
+
+    // Pushes a row that is drawn; `number` is for who is added.
+    fn push_drawn(&mut self, number: u8) -> Result<bool, Memory> {
+        let (bytes, is_add) = self.drawn_header(number)?;
+        if is_add {
+            self.push(&bytes, &[number])
+        } else {
+            self.push(&bytes, &[])
+        }
+    }
+
+    // Whether the marks are exactly the rows with these ids.
+    fn marks_are(&self, marks: &Marks, ids: &[[u8; 32]]) -> bool {
+        for index in 0..asked::count(&self.history) {
+            let id = asked::id(&self.history, index);
+            if asked::has_mark(marks, index) != asked::has_id(ids, id) {
                 return false;
             }
         }
         true
-    }
-
-    // Whether the marks are the rows with these ids.
-    fn marks_ids(&self, marks: &Marks, ids: &[[u8; 32]]) -> bool {
-        for index in 0..self.history.count() {
-            if marks.has(index) != has(ids, &self.history.id(index).0.0) {
-                return false;
-            }
-        }
-        true
-    }
-
-    // Whether the past of a row and its heads are those of the plain program.
-    fn row_agrees(&self, index: u32) -> Result<bool, Memory> {
-        if index >= self.history.count() {
-            return Ok(false);
-        }
-        let view = self.history.row(index);
-        let row = plain_message(self.alloc, &view)?;
-        let older = past(
-            self.alloc,
-            self.plain.as_slice(),
-            row.predecessors.as_slice(),
-        )?;
-        let mut marks = Marks::new();
-        if self.history.past(&view, &mut marks).is_err()
-            || !self.marks_those(&marks, older.as_slice())
-        {
-            return Ok(false);
-        }
-        let ids = heads(self.alloc, older.as_slice())?;
-        let mut marked = Marks::new();
-        self.history.mark_heads(&marks, &mut marked);
-        let follows = ids.as_slice() == row.predecessors.as_slice();
-        Ok(
-            self.marks_ids(&marked, ids.as_slice())
-                && self.history.follows_heads(&marks, &view) == follows
-                && self.link_agrees(index, &row),
-        )
     }
 
     // Whether what is kept beside a row is what its header says.
     fn link_agrees(&self, index: u32, row: &PlainMessage) -> bool {
-        if index >= self.history.count() {
-            return false;
-        }
-        let answered = match self.history.answered(index) {
-            Some(at) if at < self.history.count() => self.history.id(at).0.0,
-            _ => [0; 32],
+        asked::number(&self.history, row.id) == Some(index)
+            && asked::seq(&self.history, index) == Some(row.seq)
+            && asked::is_of_sender(&self.history, index, row.sender)
+            && asked::answered(&self.history, index) == asked::operation(row)
+    }
+
+    // Whether the past of a row is that of the plain program, and whether its heads are.
+    fn past_agrees(&self, index: u32, row: &PlainMessage) -> Result<bool, Memory> {
+        let Some(view) = asked::row(&self.history, index) else {
+            return Ok(false);
         };
-        let operation = match &row.kind {
-            PlainKind::Ack(operation, _) => *operation,
-            PlainKind::AddAck(operation) => *operation,
-            _ => [0; 32],
+        let Some(marks) = asked::past_of(&self.history, &view) else {
+            return Ok(false);
         };
-        let sender = self.history.number_of_sender(&MemberId(Digest(row.sender)));
-        self.history.find(&MessageId(Digest(row.id))) == Some(index)
-            && self.history.seq(index) == row.seq
-            && sender == Some(self.history.sender_number(index))
-            && answered == operation
+        let past = asked::plain_past(self.alloc, &self.plain, &row.predecessors)?;
+        let heads = asked::plain_heads(self.alloc, &past)?;
+        let marked = asked::heads_of(&self.history, &marks);
+        let follows = heads.as_slice() == row.predecessors.as_slice();
+        Ok(
+            self.marks_are(&marks, &asked::plain_ids(self.alloc, &past)?)
+                && self.marks_are(&marked, &heads)
+                && asked::follows(&self.history, &marks, &view) == follows,
+        )
+    }
+
+    // Whether all that the history says of a row is what the plain program says.
+    fn row_agrees(&self, index: u32) -> Result<bool, Memory> {
+        let Some(view) = asked::row(&self.history, index) else {
+            return Ok(false);
+        };
+        let row = plain_message(self.alloc, &view)?;
+        Ok(self.link_agrees(index, &row) && self.past_agrees(index, &row)?)
     }
 
     // Whether the heads of the whole history are those of the plain program.
     fn heads_agree(&self) -> Result<bool, Memory> {
-        let ids = heads(self.alloc, self.plain.as_slice())?;
-        let found = self.history.heads()?;
-        let mut same = found.len() == ids.len();
-        for (id, other) in found.as_slice().iter().zip(ids.as_slice()) {
-            same = same && id.0 == *other;
-        }
-        Ok(same)
+        let found = asked::all_heads(self.alloc, &self.history)?;
+        let wanted = asked::plain_heads(self.alloc, &self.plain)?;
+        Ok(found.as_slice() == wanted.as_slice())
     }
 
     // Whether each place has its member and the card of its id, and what is no member has none.
     fn places_agree(&self) -> bool {
-        for place in 0..self.history.places() {
-            let member = self.history.member(place);
-            if self.history.place(&member) != Some(place)
-                || self.history.card(place).id() != member
-            {
+        for place in 0..asked::places(&self.history) {
+            if !asked::place_agrees(&self.history, place) {
                 return false;
             }
         }
-        self.history.place(&MemberId(Digest([0; 32]))).is_none()
+        !asked::has_place(&self.history, [0; 32])
     }
 }
 
 // The first row of a drawn history that differs from the plain program's, or how many rows there are.
-fn first_difference(alloc: Global, seed: u64, until: u8) -> Result<u32, Memory> {
-    let mut world = World::new(alloc, seed);
+fn first_difference(world: &mut World, until: u8) -> Result<u32, Memory> {
     if !world.create(3)? {
         return Ok(0);
     }
     for number in 3..until {
-        let _pushed = world.drawn_row(number)?;
+        let _pushed = world.push_drawn(number)?;
     }
-    for index in 0..world.history.count() {
+    let count = asked::count(&world.history);
+    for index in 0..count {
         if !world.row_agrees(index)? {
             return Ok(index);
         }
@@ -365,14 +233,22 @@ fn first_difference(alloc: Global, seed: u64, until: u8) -> Result<u32, Memory> 
     if !world.heads_agree()? || !world.places_agree() {
         return Ok(0);
     }
-    Ok(world.history.count())
+    Ok(count)
 }
+
+fn drawn(alloc: Global, seed: u64, until: u8) -> Result<u32, Memory> {
+    let mut world = World::new(alloc, seed);
+    first_difference(&mut world, until)
+}
+
+// How many rows the drawn histories have, so that none is left out.
+const ROWS_DRAWN: u32 = 84;
 
 #[test]
 fn drawn_histories(rt: HostRuntime) -> Result<(), Fail> {
     let mut all = 0;
     for seed in 0..4 {
-        let count = first_difference(rt.alloc(), seed, 23)?;
+        let count = drawn(rt.alloc(), seed, 23)?;
         assert!(rt; count > 12, "seed {seed}: {count}");
         all = u32::saturating_add(all, count);
     }
@@ -380,12 +256,10 @@ fn drawn_histories(rt: HostRuntime) -> Result<(), Fail> {
     Ok(())
 }
 
-// How many rows the drawn histories have, so that none is left out.
-const ROWS_DRAWN: u32 = 84;
-
-// A text behind one row, or behind none where there is none.
-fn text(alloc: Global, seq: u32, predecessors: Vec<Digest>) -> Result<Bytes, Memory> {
+// A text behind rows.
+fn text(alloc: Global, seq: u32, predecessors: &[Digest]) -> Result<Bytes, Memory> {
     let sender = MemberId(Digest([1; 32]));
+    let predecessors = predecessors.to_vec(alloc)?;
     header(
         alloc,
         sender,
@@ -396,115 +270,102 @@ fn text(alloc: Global, seq: u32, predecessors: Vec<Digest>) -> Result<Bytes, Mem
     )
 }
 
-fn after(alloc: Global, id: Digest) -> Result<Vec<Digest>, Memory> {
-    let mut ids = Vec::new(alloc);
-    ids.push(id)?;
-    Ok(ids)
+// The add of the member with the number behind a row.
+fn add(alloc: Global, sender: Digest, root: Digest, number: u8) -> Result<Bytes, Memory> {
+    let target = Target::Member(MemberId(card_id(alloc, number)?));
+    let predecessors = [root].to_vec(alloc)?;
+    header(alloc, MemberId(sender), 2, Kind::Add, target, predecessors)
 }
 
-// The answer for what may not be pushed behind a create: the id of a predecessor that is missing, or none.
-fn missing(world: &World, bytes: &Bytes) -> [u8; 32] {
-    match read_header(bytes.as_slice()) {
-        Ok(view) => match world.history.missing(&view) {
-            Some(id) => id.0.0,
-            None => [0; 32],
-        },
-        Err(_) => [0; 32],
-    }
+// Which are pushed of a create without its cards, with them, and the same once more.
+fn pushed_creates(world: &mut World, numbers: &[u8]) -> Result<[bool; 3], Memory> {
+    world.members = card_ids(world.alloc, numbers)?;
+    let bytes = create(world.alloc, &world.members)?;
+    let without = world.push(&bytes, &[])?;
+    let with = world.push(&bytes, numbers)?;
+    let again = world.push(&bytes, numbers)?;
+    Ok([without, with, again])
 }
 
-// The add of a made-up member behind a row, and its card.
-fn add_of(
-    alloc: Global,
-    root: Digest,
-    sender: MemberId,
-    number: u8,
-) -> Result<(Bytes, Cards), Memory> {
-    let mut cards = Cards::new(alloc);
-    let mut added = Vec::new(alloc);
-    add_card(&mut cards, &mut added, &card_bytes(alloc, number)?)?;
-    let target = match added.get(0) {
-        Some(id) => Target::Member(MemberId(*id)),
-        None => Target::Nothing,
-    };
-    let bytes = header(alloc, sender, 2, Kind::Add, target, after(alloc, root)?)?;
-    Ok((bytes, cards))
+// Which are pushed of a text with cards, one behind a row that isn't there, and one behind the create.
+fn pushed_texts(world: &mut World, numbers: &[u8]) -> Result<[bool; 3], Memory> {
+    let behind = text(world.alloc, 2, &[world.root()])?;
+    let behind_none = text(world.alloc, 2, &[Digest([5; 32])])?;
+    let with_cards = world.push(&behind, numbers)?;
+    let without_row = world.push(&behind_none, &[])?;
+    let text = world.push(&behind, &[])?;
+    Ok([with_cards, without_row, text])
 }
 
-// Each row that is tried behind a create of three members, and whether it was pushed.
-fn tried(alloc: Global) -> Result<Vec<bool>, Memory> {
+// Which are pushed of an add without a card, with another's card, and with its own.
+fn pushed_adds(world: &mut World) -> Result<[bool; 3], Memory> {
+    let bytes = add(world.alloc, first_of(&world.members), world.root(), 40)?;
+    let without = world.push(&bytes, &[])?;
+    let with_other = world.push(&bytes, &[41])?;
+    let with_own = world.push(&bytes, &[40])?;
+    Ok([without, with_other, with_own])
+}
+
+// Which are pushed of creates of three members, of texts and of adds, in turn.
+fn pushed_in(world: &mut World) -> Result<[[bool; 3]; 3], Memory> {
+    let numbers = in_order(world.alloc, 3)?;
+    let creates = pushed_creates(world, &numbers)?;
+    let texts = pushed_texts(world, &numbers)?;
+    let adds = pushed_adds(world)?;
+    Ok([creates, texts, adds])
+}
+
+fn pushed(alloc: Global) -> Result<[[bool; 3]; 3], Memory> {
     let mut world = World::new(alloc, 1);
-    let mut answers = Vec::new(alloc);
-    let (some, ids) = cards_of(alloc, 3)?;
-    let none = Cards::new(alloc);
-    let first = match ids.get(0) {
-        Some(id) => MemberId(*id),
-        None => MemberId(Digest([0; 32])),
-    };
-    // A create without its cards, and one with them; the same once more.
-    let open = header(
-        alloc,
-        first,
-        1,
-        Kind::Create,
-        Target::Members(Ids::from(ids)),
-        Vec::new(alloc),
-    )?;
-    answers.push(world.push(&open, &none)?)?;
-    answers.push(world.push(&open, &some)?)?;
-    answers.push(world.push(&open, &some)?)?;
-    let root = world.drawn_id();
-    // A text with cards, one behind a row that isn't there, and one behind the create.
-    answers.push(world.push(&text(alloc, 2, after(alloc, root)?)?, &some)?)?;
-    answers.push(world.push(&text(alloc, 2, after(alloc, Digest([5; 32]))?)?, &none)?)?;
-    answers.push(world.push(&text(alloc, 2, after(alloc, root)?)?, &none)?)?;
-    // An add without a card, with another's card, and with its own.
-    let (add, own) = add_of(alloc, root, first, 40)?;
-    let (_, other) = add_of(alloc, root, first, 41)?;
-    answers.push(world.push(&add, &none)?)?;
-    answers.push(world.push(&add, &other)?)?;
-    answers.push(world.push(&add, &own)?)?;
-    Ok(answers)
+    pushed_in(&mut world)
 }
 
-// The least missing of three predecessors, of which the second stands.
+// A header with three predecessors, of which the second stands.
+fn text_behind_three(world: &World) -> Result<Bytes, Memory> {
+    let mut ids = [Digest([255; 32]), world.root(), Digest([3; 32])].to_vec(world.alloc)?;
+    ids.sort()?;
+    text(world.alloc, 2, &ids)
+}
+
+// The least of these that is missing.
+fn least_missing_in(world: &mut World) -> Result<[u8; 32], Memory> {
+    let _opened = world.create(2)?;
+    let bytes = text_behind_three(world)?;
+    Ok(asked::missing(&world.history, &bytes))
+}
+
 fn least_missing(alloc: Global) -> Result<[u8; 32], Memory> {
     let mut world = World::new(alloc, 1);
-    let _opened = world.create(2)?;
-    let mut ids = after(alloc, Digest([255; 32]))?;
-    ids.push(world.drawn_id())?;
-    ids.push(Digest([3; 32]))?;
-    ids.sort()?;
-    Ok(missing(&world, &text(alloc, 2, ids)?))
+    least_missing_in(&mut world)
 }
 
 #[test]
 fn what_may_be_pushed(rt: HostRuntime) -> Result<(), Fail> {
-    let wanted = [false, true, false, false, false, true, false, false, true];
-    let answers = tried(rt.alloc())?;
-    assert_eq!(rt; answers.as_slice(), wanted.as_slice());
+    let [creates, texts, adds] = pushed(rt.alloc())?;
+    assert_eq!(rt; creates, [false, true, false]);
+    assert_eq!(rt; texts, [false, false, true]);
+    assert_eq!(rt; adds, [false, false, true]);
     assert_eq!(rt; least_missing(rt.alloc())?, [3; 32]);
     Ok(())
 }
 
 // Pushes a row without cards, and answers its id where it was pushed.
 fn push_text(history: &mut History, bytes: &Bytes, none: &Cards) -> Result<Option<Digest>, Memory> {
-    let Ok(view) = read_header(bytes.as_slice()) else {
+    let Some(view) = asked::view(bytes) else {
         return Ok(None);
     };
-    if !history.may_push(&view, none)? {
+    if !asked::push(history, &view, none)? {
         return Ok(None);
     }
-    history.push(&view, none)?;
-    Ok(Some(view.id().0))
+    Ok(Some(asked::message_id(bytes)))
 }
 
 // Texts behind one row, as many as a header has predecessors: their ids in ascending order.
 fn push_many(history: &mut History, alloc: Global, root: Digest) -> Result<Vec<Digest>, Memory> {
-    let none = Cards::new(alloc);
+    let none = cards(alloc, &[])?;
     let mut ids = Vec::new(alloc);
-    for seq in 0..32 {
-        let bytes = text(alloc, 2 + seq, after(alloc, root)?)?;
+    for seq in 2..34 {
+        let bytes = text(alloc, seq, &[root])?;
         if let Some(id) = push_text(history, &bytes, &none)? {
             ids.push(id)?;
         }
@@ -513,52 +374,59 @@ fn push_many(history: &mut History, alloc: Global, root: Digest) -> Result<Vec<D
     Ok(ids)
 }
 
-// Texts one behind the other, as many as may be pushed.
-fn push_all(history: &mut History, alloc: Global, first: Vec<Digest>) -> Result<(), Memory> {
-    let none = Cards::new(alloc);
-    let mut last = first;
-    for seq in 34..5000 {
-        match push_text(history, &text(alloc, seq, last)?, &none)? {
-            Some(id) => last = after(alloc, id)?,
+// Texts one behind the other, as many as may be pushed; the first is behind these rows.
+fn push_all(history: &mut History, alloc: Global, first: &[Digest]) -> Result<(), Memory> {
+    let none = cards(alloc, &[])?;
+    let mut bytes = text(alloc, 34, first)?;
+    for seq in 35..5000 {
+        match push_text(history, &bytes, &none)? {
+            Some(id) => bytes = text(alloc, seq, &[id])?,
             None => return Ok(()),
         }
     }
     Ok(())
 }
 
-// A history of 32 members and as many rows as fit, of which one has 32 predecessors: how many rows and places there
-// are, how many rows the last has in its past, how many heads there are, and whether one member more was named.
-fn limits(alloc: Global) -> Result<[u32; 5], Memory> {
-    let mut world = World::new(alloc, 1);
+fn count_of_marks(marks: &Marks) -> u32 {
+    let mut count: u32 = 0;
+    for index in 0..4096 {
+        count = count.saturating_add(u32::from(asked::has_mark(marks, index)));
+    }
+    count
+}
+
+// Opens a group of 32 members, and answers whether one member more was named.
+fn crowd(world: &mut World) -> Result<bool, Memory> {
     let _opened = world.create(32)?;
-    let root = world.drawn_id();
-    let (add, card) = add_of(alloc, root, MemberId(root), 40)?;
-    let named = world.push(&add, &card)?;
-    let mut history = world.history;
-    let ids = push_many(&mut history, alloc, root)?;
-    push_all(&mut history, alloc, ids)?;
-    let count = history.count();
+    let root = world.root();
+    let bytes = add(world.alloc, root, root, 40)?;
+    world.push(&bytes, &[40])
+}
+
+// Pushes as many rows as fit, of which one has 32 predecessors.
+fn push_until_full(history: &mut History, alloc: Global) -> Result<(), Memory> {
+    let root = Digest(asked::id(history, 0));
+    let ids = push_many(history, alloc, root)?;
+    push_all(history, alloc, &ids)
+}
+
+// Of a history with as many members and rows as fit: how many rows and places there are, how many rows the last has in
+// its past, how many heads there are, and whether one member more was named.
+fn limits_in(world: &mut World) -> Result<[u32; 5], Memory> {
+    let named = crowd(world)?;
+    push_until_full(&mut world.history, world.alloc)?;
     Ok([
-        count,
-        u32::from(history.places()),
-        past_of_last(&history),
-        u32::try_from(history.heads()?.len()).unwrap_or(0),
+        asked::count(&world.history),
+        u32::from(asked::places(&world.history)),
+        count_of_marks(&asked::past_of_last(&world.history)),
+        asked::count_of_heads(&world.history)?,
         u32::from(named),
     ])
 }
 
-fn past_of_last(history: &History) -> u32 {
-    let count = history.count();
-    if count == 0 {
-        return 0;
-    }
-    let mut marks = Marks::new();
-    history.mark_past(&history.row(count - 1), &mut marks);
-    let mut rows = 0;
-    for index in 0..count {
-        rows = u32::saturating_add(rows, u32::from(marks.has(index)));
-    }
-    rows
+fn limits(alloc: Global) -> Result<[u32; 5], Memory> {
+    let mut world = World::new(alloc, 1);
+    limits_in(&mut world)
 }
 
 #[test]
@@ -567,21 +435,51 @@ fn as_much_as_fits(rt: HostRuntime) -> Result<(), Fail> {
     Ok(())
 }
 
-#[test]
-fn crowds_and_texts(rt: HostRuntime) -> Result<(), Fail> {
+// Two places; which of three is none of these two; and whether it is none of the three.
+fn crowds() -> [Crowd; 3] {
     let few = Crowd::new().with(3).with(40);
     let more = few.union(Crowd(1));
-    assert_eq!(rt; few.0, 1 << 3 | 1 << 40);
-    assert_eq!(rt; more.without(few), Crowd(1));
-    assert!(rt; Crowd(1).without(more).is_empty() && few.has(40) && !few.has(0));
-    let mut texts = Texts::new(rt.alloc());
+    [few, more.without(few), Crowd(1).without(more)]
+}
+
+fn has(crowd: Crowd, place: u8) -> bool {
+    place < 64 && crowd.has(place)
+}
+
+fn is_empty(crowd: Crowd) -> bool {
+    crowd.is_empty()
+}
+
+// A list of one text without bytes.
+fn one_text(alloc: Global) -> Result<Texts, Memory> {
+    let mut texts = Texts::new(alloc);
     texts.push(TextRow {
         id: MessageId(Digest([1; 32])),
         sender: MemberId(Digest([2; 32])),
         text: None,
     })?;
-    assert!(rt; texts.len() == 1 && !texts.is_empty());
+    Ok(texts)
+}
+
+// How many texts there are, whether there is none, and, by way of a vector, how many have no bytes.
+fn counts(texts: Texts) -> (usize, bool, usize) {
+    let (count, is_empty) = (texts.len(), texts.is_empty());
     let texts = Texts::from(texts.into_vec());
-    assert!(rt; texts.as_slice().iter().all(|row| row.text.is_none()));
+    let mut without: usize = 0;
+    for row in texts.as_slice() {
+        without = without.saturating_add(usize::from(row.text.is_none()));
+    }
+    (count, is_empty, without)
+}
+
+#[test]
+fn crowds_and_texts(rt: HostRuntime) -> Result<(), Fail> {
+    let [few, new, nobody] = crowds();
+    assert_eq!(rt; (few.0, new.0, nobody.0), (1 << 3 | 1 << 40, 1, 0));
+    assert_eq!(rt;
+        (has(few, 40), has(few, 0), is_empty(few), is_empty(nobody)),
+        (true, false, false, true)
+    );
+    assert_eq!(rt; counts(one_text(rt.alloc())?), (1, false, 1));
     Ok(())
 }
