@@ -49,8 +49,8 @@ abbrev pub given : (random : Bytes) → Given
 given random = record { random = random; text = [] }
 
 module _ {K P : Type 0} (kem : Ghosts K P) where
-  -- Bytes are those of a part with a payload that was sealed for a receiver: the next part of its pairing, with the draws
-  -- that were left for it, which what is held of its place has from then on.
+  -- Bytes are those of a part with a payload that was sealed for a receiver: the next part of its pairing, with the
+  -- draws that were left for it, which what is held of its place has from then on.
   pub record IsSealedFor (r : Receiver) (payload : Bytes) (drawn : List Drawn) (before after : HeldBook)
       (bytes : Bytes) : Type 0 where
     pub draw : Draws
@@ -66,7 +66,8 @@ module _ {K P : Type 0} (kem : Ghosts K P) where
   -- receivers, in their order. What is held stands for the book after one send to each.
   pub record SendsTo (O : Owner) (ids : List Id) (random payload : Bytes) (to : List Receiver) (state : BookState)
       (b : HeldBook) (parts : List AddressedPart) : Type 0 where
-    pub sent : parts_of (λ y. part_by O (given random) y payload state) (ids_to to) ≡ Some (map (addressed_of kem) parts)
+    pub sent : parts_of (λ y. part_by O (given random) y payload state) (ids_to to)
+        ≡ Some (map (addressed_of kem) parts)
     pub stands : HeldStands kem O ids b (sends_each O random (ids_to to) state)
 
   -- Parts with a payload were made for the receivers, from what was held before and the draws that were left.

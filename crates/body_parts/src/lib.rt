@@ -10,3 +10,6 @@ pub use addressing::{Receiver, receivers};
 pub use draws::draw_for;
 pub use laws::receivers_are_addressees;
 pub use parts::{append_part, append_parts, can_reach, parts_body};
+
+#[cfg(test)]
+mod tests;

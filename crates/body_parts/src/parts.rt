@@ -1,7 +1,7 @@
 //! Parts, as a member makes them from its book.
 
-ghost use Rattle.std.specs.Prelude.{◌≡◌, ◌≢◌, ◌↔◌, ◌<◌, ◌≤◌, ◌++◌, ◌^◌, ℕ, true, List, [], ◌∷◌, length, IfOk, OnOk, Option, IsTrue};
-ghost use Rattle.group_fields.specs.Layouts.{bytes_of};
+ghost use Rattle.std.specs.Prelude.{◌≡◌, ◌≢◌, ◌↔◌, ◌<◌, ◌≤◌, ◌^◌, ℕ, true, List, [], ◌∷◌, length, IfOk, OnOk, Option};
+ghost use Rattle.std.specs.Prelude.{IsTrue};
 ghost use Rattle.group_fields.specs.LayoutWrites.{Appends, ascends};
 ghost use Rattle.group_fields.specs.declared.ids.Digest.{Digest};
 ghost use Rattle.wire_codec.specs.Packets.{AddressedPart, part, parts, parts_above};
