@@ -1,5 +1,5 @@
 use crate::*;
-use causal_history::History;
+use causal_history::{Crowd, History};
 use group_fields::{
     Bytes, Card, Cards, Digest, GroupId, Header, HeaderView, Ids, Kind, MemberId, Memory, Target,
     read_card, read_header, write_card, write_header,
@@ -69,6 +69,80 @@ fn cards(alloc: Global, numbers: &[u8]) -> Result<Cards, Memory> {
 
 // ---- rows
 
+enum Does {
+    Create,
+    Add(u8),
+    Remove(u8),
+    Update,
+}
+
+struct Row {
+    sender: u8,
+    seq: u32,
+    does: Does,
+    behind: &'static [u32],
+}
+
+// Member 0 makes the group of 0 to 3, then adds 4 and 5; member 1 updates beside the adds; member 2 removes 5 behind
+// both.
+const ROWS: [Row; 5] = [
+    Row {
+        sender: 0,
+        seq: 1,
+        does: Does::Create,
+        behind: &[],
+    },
+    Row {
+        sender: 0,
+        seq: 2,
+        does: Does::Add(4),
+        behind: &[0],
+    },
+    Row {
+        sender: 0,
+        seq: 3,
+        does: Does::Add(5),
+        behind: &[1],
+    },
+    Row {
+        sender: 1,
+        seq: 1,
+        does: Does::Update,
+        behind: &[0],
+    },
+    Row {
+        sender: 2,
+        seq: 1,
+        does: Does::Remove(5),
+        behind: &[2, 3],
+    },
+];
+
+fn kind_of(does: &Does) -> Kind {
+    match does {
+        Does::Create => Kind::Create,
+        Does::Add(_) => Kind::Add,
+        Does::Remove(_) => Kind::Remove,
+        Does::Update => Kind::Update,
+    }
+}
+
+fn target_of(alloc: Global, does: &Does) -> Result<Target, Memory> {
+    Ok(match does {
+        Does::Create => Target::Members(members(alloc, &[0, 1, 2, 3])?),
+        Does::Add(number) | Does::Remove(number) => Target::Member(member(alloc, *number)?),
+        Does::Update => Target::Nothing,
+    })
+}
+
+fn cards_of(alloc: Global, does: &Does) -> Result<Cards, Memory> {
+    match does {
+        Does::Create => cards(alloc, &[0, 1, 2, 3]),
+        Does::Add(number) => cards(alloc, &[*number]),
+        Does::Remove(_) | Does::Update => Ok(Cards::new(alloc)),
+    }
+}
+
 fn predecessors(alloc: Global, history: &History, rows: &[u32]) -> Result<Ids, Memory> {
     let mut ids = Vec::new(alloc);
     for row in rows {
@@ -79,38 +153,24 @@ fn predecessors(alloc: Global, history: &History, rows: &[u32]) -> Result<Ids, M
     digests(alloc, ids)
 }
 
-// Pushes the row of a sender with what it does, behind these rows. Answers whether that could be.
-fn push(
-    alloc: Global,
-    history: &mut History,
-    sender: u8,
-    seq: u32,
-    kind: Kind,
-    target: Target,
-    behind: &[u32],
-    named: &[u8],
-) -> Result<bool, Memory> {
+fn header_bytes(alloc: Global, history: &History, row: &Row) -> Result<Bytes, Memory> {
     let header = Header {
         set: 2,
         group: GroupId(Digest([9; 32])),
-        sender: member(alloc, sender)?,
-        seq,
-        kind,
-        target,
-        predecessors: predecessors(alloc, history, behind)?,
+        sender: member(alloc, row.sender)?,
+        seq: row.seq,
+        kind: kind_of(&row.does),
+        target: target_of(alloc, &row.does)?,
+        predecessors: predecessors(alloc, history, row.behind)?,
         body: Digest([7; 32]),
     };
-    if !header.has_spelling() {
-        return Ok(false);
+    if header.has_spelling() {
+        return write_header(alloc, &header);
     }
-    let bytes = write_header(alloc, &header)?;
-    let cards = cards(alloc, named)?;
-    match read_header(bytes.as_slice()) {
-        Ok(view) => push_view(history, &view, &cards),
-        Err(_) => Ok(false),
-    }
+    Bytes::copy_of(alloc, &[])
 }
 
+// Pushes the row of a header. Answers whether that could be.
 fn push_view(
     history: &mut History,
     header: &HeaderView<'_>,
@@ -123,56 +183,43 @@ fn push_view(
     Ok(true)
 }
 
-// Member 0 makes the group of 0 to 3, then adds 4 and 5; member 1 updates beside the adds; member 2 removes 5 behind
-// both.
-fn group(alloc: Global) -> Result<Option<History>, Memory> {
-    let mut group = History::new(alloc);
-    let all = Target::Members(members(alloc, &[0, 1, 2, 3])?);
-    let four = Target::Member(member(alloc, 4)?);
-    let five = Target::Member(member(alloc, 5)?);
-    let removed = Target::Member(member(alloc, 5)?);
-    let made = push(
-        alloc,
-        &mut group,
-        0,
-        1,
-        Kind::Create,
-        all,
-        &[],
-        &[0, 1, 2, 3],
-    )? && push(alloc, &mut group, 0, 2, Kind::Add, four, &[0], &[4])?
-        && push(alloc, &mut group, 0, 3, Kind::Add, five, &[1], &[5])?
-        && push(
-            alloc,
-            &mut group,
-            1,
-            1,
-            Kind::Update,
-            Target::Nothing,
-            &[0],
-            &[],
-        )?
-        && push(alloc, &mut group, 2, 1, Kind::Remove, removed, &[2, 3], &[])?;
-    Ok(if made { Some(group) } else { None })
+fn push(alloc: Global, history: &mut History, row: &Row) -> Result<bool, Memory> {
+    let bytes = header_bytes(alloc, history, row)?;
+    let cards = cards_of(alloc, &row.does)?;
+    match read_header(bytes.as_slice()) {
+        Ok(view) => push_view(history, &view, &cards),
+        Err(_) => Ok(false),
+    }
+}
+
+fn push_all(alloc: Global, history: &mut History) -> Result<bool, Memory> {
+    for row in &ROWS {
+        if !push(alloc, history, row)? {
+            return Ok(false);
+        }
+    }
+    Ok(true)
 }
 
 // ---- what is compared, without clauses: what calls it is proved fast
 
+// Whom the ack of the member at a place to the operation at a row forwards to.
+fn crowd_of(history: &History, row: u32, place: u8) -> Crowd {
+    if row >= history.count() || place >= history.places() {
+        return Crowd::new();
+    }
+    forward_to::<RemoveWins>(history, place, &history.row(row))
+}
+
 // Which of the members 0 to 5 are forwarded the secret by the ack of a member to the operation at a row.
 fn forwarded(alloc: Global, history: &History, row: u32, me: u8) -> Result<Vec<u8>, Memory> {
     let mut numbers = Vec::new(alloc);
-    let Some(place) = history.place(&member(alloc, me)?) else {
-        return Ok(numbers);
-    };
-    if row >= history.count() {
-        return Ok(numbers);
-    }
-    let crowd = forward_to::<RemoveWins>(history, place, &history.row(row));
+    let place = history.place(&member(alloc, me)?).unwrap_or(u8::MAX);
+    let crowd = crowd_of(history, row, place);
     for number in 0..6 {
-        if let Some(at) = history.place(&member(alloc, number)?) {
-            if crowd.has(at) {
-                numbers.push(number)?;
-            }
+        let at = history.place(&member(alloc, number)?).unwrap_or(u8::MAX);
+        if at < 64 && crowd.has(at) {
+            numbers.push(number)?;
         }
     }
     Ok(numbers)
@@ -191,13 +238,27 @@ const CASES: [(u32, u8, &[u8]); 9] = [
     (4, 3, &[]),
 ];
 
+// The number of the first case that is answered otherwise; none where all are answered so.
+fn first_amiss(alloc: Global, history: &History) -> Result<Option<usize>, Memory> {
+    for (index, (row, me, to)) in CASES.iter().enumerate() {
+        let numbers = forwarded(alloc, history, *row, *me)?;
+        if numbers.as_slice() != *to {
+            return Ok(Some(index));
+        }
+    }
+    Ok(None)
+}
+
+fn told(alloc: Global, history: &mut History) -> Result<Option<usize>, Fail> {
+    if !push_all(alloc, history)? {
+        return Err(Fail::new("a row can't be pushed"));
+    }
+    Ok(first_amiss(alloc, history)?)
+}
+
 #[test]
 fn forwards_to_whom_the_operation_left_out(rt: HostRuntime) -> Result<(), Fail> {
-    let alloc = rt.alloc();
-    let history = group(alloc)?.ok_or("a row can't be pushed")?;
-    for (row, me, to) in &CASES {
-        let numbers = forwarded(alloc, &history, *row, *me)?;
-        assert!(rt; numbers.as_slice() == *to, "row {row} by member {me}");
-    }
+    let mut history = History::new(rt.alloc());
+    assert_eq!(rt; told(rt.alloc(), &mut history)?, None);
     Ok(())
 }
