@@ -1,3 +1,4 @@
 mod Crowds
 mod KeptAnswers
 mod Moves
+mod TestFacts

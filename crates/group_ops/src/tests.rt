@@ -392,33 +392,87 @@ fn member(group: &Group, place: u8) -> [u8; 32] {
     id_at(group.ids.as_slice(), place)
 }
 
-/// Takes the create, and tells what that says.
-fn take_create(
+/// What is to be learned of a member, and its ratchet then.
+#[derive(Clone, Copy, Drop)]
+struct Known {
+    secret: Option<[u8; 32]>,
+    ratchet: Option<[u8; 32]>,
+}
+
+const NOTHING: Known = Known {
+    secret: None,
+    ratchet: None,
+};
+
+fn after_step(step: ([u8; 32], [u8; 32])) -> Known {
+    Known {
+        secret: Some(step.0),
+        ratchet: Some(step.1),
+    }
+}
+
+/// The first step of the member at a place by its secret under the seed of a number.
+fn first_of(group: &Group, place: u8, number: u8) -> Known {
+    after_step(first_step(&seed(number), &member(group, place)))
+}
+
+/// Whether taking the create of the member at a place says so much.
+fn create_says(
     alloc: Global,
     book: &mut Drill,
     group: &Group,
+    maker: u8,
     part: Option<&[u8]>,
     own_seed: Option<&[u8; 32]>,
-) -> Result<(bool, Option<[u8; 32]>), Fail> {
+    is: Known,
+) -> Result<bool, Fail> {
     let bytes = group.create.as_slice();
     let taken = take(alloc, book, &group.before, bytes, part, own_seed)?;
-    Ok((taken.took, taken.learned))
+    Ok(
+        taken.learned == is.secret
+            && ratchet(book, maker) == is.ratchet
+            && taken.took == part.is_some(),
+    )
 }
 
-/// Takes the ack of an operation by the member at a place.
-fn take_answer(
+/// Whether taking the ack of the create by the member at a place says so much.
+fn ack_says(
     alloc: Global,
     book: &mut Drill,
     group: &Group,
     place: u8,
-    operation: &[u8],
     took: bool,
     part: Option<&[u8]>,
-) -> Result<Option<[u8; 32]>, Fail> {
+    is: Known,
+) -> Result<bool, Fail> {
+    answer_says(
+        alloc,
+        book,
+        group,
+        group.create.as_slice(),
+        place,
+        took,
+        part,
+        is,
+    )
+}
+
+/// The same of the ack of another operation.
+fn answer_says(
+    alloc: Global,
+    book: &mut Drill,
+    group: &Group,
+    operation: &[u8],
+    place: u8,
+    took: bool,
+    part: Option<&[u8]>,
+    is: Known,
+) -> Result<bool, Fail> {
     let of = message_id(operation)?;
     let target = Target::Answer(of, took);
     let bytes = message(alloc, member(group, place), Kind::Ack, target, Some(of))?;
-    answer(alloc, book, &group.behind, bytes.as_slice(), part)
+    let told = answer(alloc, book, &group.behind, bytes.as_slice(), part)?;
+    Ok(told == is.secret && ratchet(book, place) == is.ratchet)
 }
 
 /// The book of the first member, which met all three.
@@ -429,67 +483,100 @@ fn met_all(alloc: Global, book: &mut Drill) -> Result<(), Fail> {
 }
 
 /// A create whose part opens: each answer gives the secret of its member, once, and one without `took` gives none.
+fn knows(alloc: Global, book: &mut Drill, group: &Group, part: &[u8]) -> Result<bool, Fail> {
+    let maker = first_of(group, 1, 20);
+    let own = first_of(group, 0, 20);
+    let refused = Known {
+        secret: None,
+        ratchet: Some(EMPTY),
+    };
+    let mut right = create_says(alloc, book, group, 1, Some(part), None, maker)?;
+    for (place, took, is) in [(0, true, own), (2, false, refused), (2, true, NOTHING)] {
+        right = ack_says(alloc, book, group, place, took, None, is)? && right;
+    }
+    Ok(right)
+}
+
 fn knows_the_seed(alloc: Global, book: &mut Drill) -> Result<bool, Fail> {
     met_all(alloc, book)?;
     let group = new_group(alloc, 1)?;
     let part = part_of(alloc, 1, &seed(20))?;
-    let maker = first_step(&seed(20), &member(&group, 1));
-    let own = first_step(&seed(20), &member(&group, 0));
-    let create = group.create.as_slice();
-    let taken = take_create(alloc, book, &group, Some(part.as_slice()), None)?;
-    let right = taken == (true, Some(maker.0)) && ratchet(book, 1) == Some(maker.1);
-    let mine = take_answer(alloc, book, &group, 0, create, true, None)?;
-    let right = right && mine == Some(own.0) && ratchet(book, 0) == Some(own.1);
-    let refusal = take_answer(alloc, book, &group, 2, create, false, None)?;
-    let right = right && refusal.is_none() && ratchet(book, 2) == Some(EMPTY);
-    let late = take_answer(alloc, book, &group, 2, create, true, None)?;
-    Ok(right && late.is_none() && ratchet(book, 2).is_none())
+    knows(alloc, book, &group, part.as_slice())
 }
 
 /// A create without a part that opens: its maker's ratchet is forgotten, and an answer's secret is known only where it
 /// was forwarded.
-fn lacks_the_seed(alloc: Global, book: &mut Drill, part: Option<&[u8]>) -> Result<bool, Fail> {
-    met_all(alloc, book)?;
-    let group = new_group(alloc, 1)?;
-    let create = group.create.as_slice();
-    let taken = take_create(alloc, book, &group, part, None)?;
-    let right = taken == (false, None) && ratchet(book, 1).is_none();
-    let forward = part_of(alloc, 2, &seed(21))?;
-    let theirs = stepped(&EMPTY, &seed(21));
-    let told = take_answer(
-        alloc,
-        book,
-        &group,
-        2,
-        create,
-        true,
-        Some(forward.as_slice()),
-    )?;
-    let right = right && told == Some(theirs.0) && ratchet(book, 2) == Some(theirs.1);
-    let unknown = take_answer(alloc, book, &group, 0, create, true, None)?;
-    Ok(right && unknown.is_none() && ratchet(book, 0).is_none())
+fn lacks(alloc: Global, book: &mut Drill, group: &Group, forward: &[u8]) -> Result<bool, Fail> {
+    let theirs = after_step(stepped(&EMPTY, &seed(21)));
+    let created = create_says(alloc, book, group, 1, None, None, NOTHING)?;
+    let told = ack_says(alloc, book, group, 2, true, Some(forward), theirs)?;
+    let unknown = ack_says(alloc, book, group, 0, true, None, NOTHING)?;
+    Ok(created && told && unknown)
 }
 
-/// An own create, and the remove of the third member, which that member gets no part of.
+fn lacks_the_seed(alloc: Global, book: &mut Drill) -> Result<bool, Fail> {
+    met_all(alloc, book)?;
+    let group = new_group(alloc, 1)?;
+    let forward = part_of(alloc, 2, &seed(21))?;
+    lacks(alloc, book, &group, forward.as_slice())
+}
+
+/// The same where the part opens to nothing.
+fn hears_nothing(alloc: Global, book: &mut Drill, group: &Group) -> Result<bool, Fail> {
+    let bytes = group.create.as_slice();
+    let taken = take(alloc, book, &group.before, bytes, Some(b"no part"), None)?;
+    let forgotten = ratchet(book, 1).is_none();
+    let unknown = ack_says(alloc, book, group, 0, true, None, NOTHING)?;
+    Ok(!taken.took && taken.learned.is_none() && forgotten && unknown)
+}
+
+fn gets_no_part(alloc: Global, book: &mut Drill) -> Result<bool, Fail> {
+    met_all(alloc, book)?;
+    let group = new_group(alloc, 1)?;
+    hears_nothing(alloc, book, &group)
+}
+
+/// The remove of the third member by the second.
+fn remove_bytes(alloc: Global, group: &Group) -> Result<Bytes, Fail> {
+    let before = message_id(group.create.as_slice())?;
+    let target = Target::Member(MemberId(Digest(member(group, 2))));
+    message(alloc, member(group, 1), Kind::Remove, target, Some(before))
+}
+
+/// A remove of the third member, which is no recipient of it, behind an own create after which the ratchet is this one.
+fn hears(
+    alloc: Global,
+    book: &mut Drill,
+    group: &Group,
+    remove: &[u8],
+    part: &[u8],
+    own: [u8; 32],
+) -> Result<bool, Fail> {
+    let next = after_step(stepped(&own, &kdf(&seed(23), b"member", &member(group, 0))));
+    let taken = take(alloc, book, &group.behind, remove, Some(part), None)?;
+    let mine = answer_says(alloc, book, group, remove, 0, true, None, next)?;
+    let theirs = answer_says(alloc, book, group, remove, 2, true, None, NOTHING)?;
+    let secret = first_of(group, 1, 23).secret;
+    Ok(taken.took && taken.learned == secret && mine && theirs)
+}
+
 fn makes_and_hears(alloc: Global, book: &mut Drill) -> Result<bool, Fail> {
     met_all(alloc, book)?;
     let group = new_group(alloc, 0)?;
-    let own = first_step(&seed(22), &member(&group, 0));
-    let taken = take_create(alloc, book, &group, None, Some(&seed(22)))?;
-    let right = taken == (false, Some(own.0)) && ratchet(book, 0) == Some(own.1);
-    let before = message_id(group.create.as_slice())?;
-    let target = Target::Member(MemberId(Digest(member(&group, 2))));
-    let remove = message(alloc, member(&group, 1), Kind::Remove, target, Some(before))?;
+    let (secret, next) = first_step(&seed(22), &member(&group, 0));
+    let own = after_step((secret, next));
+    let created = create_says(alloc, book, &group, 0, None, Some(&seed(22)), own)?;
+    let remove = remove_bytes(alloc, &group)?;
     let part = part_of(alloc, 1, &seed(23))?;
-    let maker = first_step(&seed(23), &member(&group, 1));
-    let part = Some(part.as_slice());
-    let taken = take(alloc, book, &group.behind, remove.as_slice(), part, None)?;
-    let right = right && taken.took && taken.learned == Some(maker.0);
-    let mine = stepped(&own.1, &kdf(&seed(23), b"member", &member(&group, 0)));
-    let answered = take_answer(alloc, book, &group, 0, remove.as_slice(), true, None)?;
-    let right = right && answered == Some(mine.0) && ratchet(book, 0) == Some(mine.1);
-    let outside = take_answer(alloc, book, &group, 2, remove.as_slice(), true, None)?;
-    Ok(right && outside.is_none() && ratchet(book, 2).is_none())
+    let heard = hears(
+        alloc,
+        book,
+        &group,
+        remove.as_slice(),
+        part.as_slice(),
+        next,
+    )?;
+    Ok(created && heard)
 }
 
 fn new_book(alloc: Global) -> Result<Drill, Fail> {
@@ -507,12 +594,19 @@ fn takes_of_who_knows_the_seed(rt: HostRuntime) -> Result<(), Fail> {
 
 #[test]
 fn takes_of_who_lacks_the_seed(rt: HostRuntime) -> Result<(), Fail> {
-    for part in [None, Some(b"no part".as_slice())] {
-        let mut book = new_book(rt.alloc())?;
-        let right = lacks_the_seed(rt.alloc(), &mut book, part);
-        book.close();
-        assert!(rt; right?);
-    }
+    let mut book = new_book(rt.alloc())?;
+    let right = lacks_the_seed(rt.alloc(), &mut book);
+    book.close();
+    assert!(rt; right?);
+    Ok(())
+}
+
+#[test]
+fn takes_of_who_gets_no_part(rt: HostRuntime) -> Result<(), Fail> {
+    let mut book = new_book(rt.alloc())?;
+    let right = gets_no_part(rt.alloc(), &mut book);
+    book.close();
+    assert!(rt; right?);
     Ok(())
 }
 

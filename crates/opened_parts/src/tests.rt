@@ -83,6 +83,11 @@ fn open(alloc: Global, book: &mut Drill, part: Option<&[u8]>) -> Result<Option<[
     Ok(open_part(alloc, book, 1, part)?)
 }
 
+/// All but the first byte.
+fn tail(bytes: &[u8]) -> &[u8] {
+    bytes.get(1..).unwrap_or(&[])
+}
+
 /// A part opens once, to its payload; without a part, and where it doesn't open, the next one opens all the same.
 fn story(alloc: Global, ada: &mut Drill, bob: &mut Drill) -> Result<bool, Fail> {
     meet(alloc, ada, 2)?;
@@ -92,7 +97,7 @@ fn story(alloc: Global, ada: &mut Drill, bob: &mut Drill) -> Result<bool, Fail> 
     Ok(
         open(alloc, bob, None)?.is_none()
             && open(alloc, bob, Some(&[]))?.is_none()
-            && open(alloc, bob, Some(&part.as_slice()[1..]))?.is_none()
+            && open(alloc, bob, Some(tail(part.as_slice())))?.is_none()
             && open(alloc, bob, Some(next.as_slice()))?.is_none()
             && open(alloc, bob, Some(part.as_slice()))? == Some(seed(11))
             && open(alloc, bob, Some(part.as_slice()))?.is_none()
