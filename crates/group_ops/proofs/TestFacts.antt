@@ -1,5 +1,5 @@
 -- What the tests find out about a message.
-use Rattle.std.proofs.Common.{◌≡◌, ℕ, List, [], ◌∷◌, length, Option, Some, None, option_map, refl, arith}
+use Rattle.std.proofs.Common.{◌≡◌, List, [], ◌∷◌, length, Option, Some, None, option_map, refl, arith}
 use Rattle.std.specs.Prelude.{IsSome}
 
 pub no-rows : {A : Type 0} (xs : List A) → length xs ≡ 0 → xs ≡ []

@@ -43,15 +43,21 @@ fn seed(number: u8) -> [u8; 32] {
     kdf(&[7; 32], b"seed", &[number])
 }
 
+/// The first 32 bytes and the others.
+fn halves(bytes: &[u8; 64]) -> ([u8; 32], [u8; 32]) {
+    let (front, back) = bytes.split_at(32);
+    let mut first = [0; 32];
+    let mut last = [0; 32];
+    first.copy_from_slice(front);
+    last.copy_from_slice(back);
+    (first, last)
+}
+
 /// The update secret of a ratchet's step by an input, and the ratchet after it: 64 bytes of HKDF, by their definition.
 fn stepped(ratchet: &[u8; 32], input: &[u8; 32]) -> ([u8; 32], [u8; 32]) {
     let mut output = [0; 64];
     expand(&extract(ratchet, input), b"ratchet", &mut output);
-    let mut secret = [0; 32];
-    let mut next = [0; 32];
-    secret.copy_from_slice(&output[..32]);
-    next.copy_from_slice(&output[32..]);
-    (secret, next)
+    halves(&output)
 }
 
 /// The first step of a member by its secret under a seed.
@@ -497,11 +503,9 @@ fn knows(alloc: Global, book: &mut Drill, group: &Group, part: &[u8]) -> Result<
     Ok(right)
 }
 
-fn knows_the_seed(alloc: Global, book: &mut Drill) -> Result<bool, Fail> {
-    met_all(alloc, book)?;
-    let group = new_group(alloc, 1)?;
+fn hears_the_seed(alloc: Global, book: &mut Drill, group: &Group) -> Result<bool, Fail> {
     let part = part_of(alloc, 1, &seed(20))?;
-    knows(alloc, book, &group, part.as_slice())
+    knows(alloc, book, group, part.as_slice())
 }
 
 /// A create without a part that opens: its maker's ratchet is forgotten, and an answer's secret is known only where it
@@ -514,11 +518,9 @@ fn lacks(alloc: Global, book: &mut Drill, group: &Group, forward: &[u8]) -> Resu
     Ok(created && told && unknown)
 }
 
-fn lacks_the_seed(alloc: Global, book: &mut Drill) -> Result<bool, Fail> {
-    met_all(alloc, book)?;
-    let group = new_group(alloc, 1)?;
+fn hears_a_forward(alloc: Global, book: &mut Drill, group: &Group) -> Result<bool, Fail> {
     let forward = part_of(alloc, 2, &seed(21))?;
-    lacks(alloc, book, &group, forward.as_slice())
+    lacks(alloc, book, group, forward.as_slice())
 }
 
 /// The same where the part opens to nothing.
@@ -528,12 +530,6 @@ fn hears_nothing(alloc: Global, book: &mut Drill, group: &Group) -> Result<bool,
     let forgotten = ratchet(book, 1).is_none();
     let unknown = ack_says(alloc, book, group, 0, true, None, NOTHING)?;
     Ok(!taken.took && taken.learned.is_none() && forgotten && unknown)
-}
-
-fn gets_no_part(alloc: Global, book: &mut Drill) -> Result<bool, Fail> {
-    met_all(alloc, book)?;
-    let group = new_group(alloc, 1)?;
-    hears_nothing(alloc, book, &group)
 }
 
 /// The remove of the third member by the second.
@@ -560,61 +556,63 @@ fn hears(
     Ok(taken.took && taken.learned == secret && mine && theirs)
 }
 
-fn makes_and_hears(alloc: Global, book: &mut Drill) -> Result<bool, Fail> {
-    met_all(alloc, book)?;
-    let group = new_group(alloc, 0)?;
-    let (secret, next) = first_step(&seed(22), &member(&group, 0));
-    let own = after_step((secret, next));
-    let created = create_says(alloc, book, &group, 0, None, Some(&seed(22)), own)?;
-    let remove = remove_bytes(alloc, &group)?;
+fn hears_a_remove(
+    alloc: Global,
+    book: &mut Drill,
+    group: &Group,
+    remove: &[u8],
+    own: [u8; 32],
+) -> Result<bool, Fail> {
     let part = part_of(alloc, 1, &seed(23))?;
-    let heard = hears(
-        alloc,
-        book,
-        &group,
-        remove.as_slice(),
-        part.as_slice(),
-        next,
-    )?;
+    hears(alloc, book, group, remove, part.as_slice(), own)
+}
+
+/// An own create, and the remove behind it.
+fn makes(alloc: Global, book: &mut Drill, group: &Group, remove: &[u8]) -> Result<bool, Fail> {
+    let (secret, next) = first_step(&seed(22), &member(group, 0));
+    let own = after_step((secret, next));
+    let created = create_says(alloc, book, group, 0, None, Some(&seed(22)), own)?;
+    let heard = hears_a_remove(alloc, book, group, remove, next)?;
     Ok(created && heard)
 }
 
-fn new_book(alloc: Global) -> Result<Drill, Fail> {
-    Ok(Book::start(alloc, pair(alloc, 0)?))
+fn makes_in(alloc: Global, book: &mut Drill, group: &Group) -> Result<bool, Fail> {
+    let remove = remove_bytes(alloc, group)?;
+    makes(alloc, book, group, remove.as_slice())
+}
+
+/// What the member makes and hears of a group.
+#[derive(Clone, Copy, Drop)]
+enum Story {
+    HearsTheSeed,
+    HearsAForward,
+    HearsNothing,
+    MakesTheGroup,
+}
+
+fn is_told(alloc: Global, book: &mut Drill, maker: u8, story: Story) -> Result<bool, Fail> {
+    met_all(alloc, book)?;
+    let group = new_group(alloc, maker)?;
+    match story {
+        Story::HearsTheSeed => hears_the_seed(alloc, book, &group),
+        Story::HearsAForward => hears_a_forward(alloc, book, &group),
+        Story::HearsNothing => hears_nothing(alloc, book, &group),
+        Story::MakesTheGroup => makes_in(alloc, book, &group),
+    }
 }
 
 #[test]
-fn takes_of_who_knows_the_seed(rt: HostRuntime) -> Result<(), Fail> {
-    let mut book = new_book(rt.alloc())?;
-    let right = knows_the_seed(rt.alloc(), &mut book);
-    book.close();
-    assert!(rt; right?);
-    Ok(())
-}
-
-#[test]
-fn takes_of_who_lacks_the_seed(rt: HostRuntime) -> Result<(), Fail> {
-    let mut book = new_book(rt.alloc())?;
-    let right = lacks_the_seed(rt.alloc(), &mut book);
-    book.close();
-    assert!(rt; right?);
-    Ok(())
-}
-
-#[test]
-fn takes_of_who_gets_no_part(rt: HostRuntime) -> Result<(), Fail> {
-    let mut book = new_book(rt.alloc())?;
-    let right = gets_no_part(rt.alloc(), &mut book);
-    book.close();
-    assert!(rt; right?);
-    Ok(())
-}
-
-#[test]
-fn takes_of_an_own_create_and_a_remove(rt: HostRuntime) -> Result<(), Fail> {
-    let mut book = new_book(rt.alloc())?;
-    let right = makes_and_hears(rt.alloc(), &mut book);
-    book.close();
-    assert!(rt; right?);
+fn takes_of_the_first_of_three(rt: HostRuntime) -> Result<(), Fail> {
+    for (maker, story) in [
+        (1, Story::HearsTheSeed),
+        (1, Story::HearsAForward),
+        (1, Story::HearsNothing),
+        (0, Story::MakesTheGroup),
+    ] {
+        let mut book = Book::start(rt.alloc(), pair(rt.alloc(), 0)?);
+        let right = is_told(rt.alloc(), &mut book, maker, story);
+        book.close();
+        assert!(rt; right?);
+    }
     Ok(())
 }
