@@ -10,6 +10,7 @@ ghost use Rattle.group_model.specs.Membership.{ids_named};
 ghost use Rattle.group_model.specs.Validity.{SendsParts};
 ghost use Rattle.group_model.specs.Marks.{IsCrowd};
 ghost use Rattle.member_view.specs.Causes.{GivesNone, IsFirst};
+ghost use Rattle.member_view.specs.Crowds.{StandsWell};
 ghost use Rattle.causal_cast.specs.Judging.{inviter_by, inviter_in, receivers as ids_of_parts};
 ghost use Rattle.causal_cast.specs.Verdicts.{on_rules as by_rules, verdict_on as verdict_by};
 
@@ -69,12 +70,15 @@ fn receivers(history: &History, packet: &PacketView<'_>) -> Option<Crowd>
     Some(crowd)
 }
 
-// Whether the parts are for exactly the addressees.
-fn parts_suit<G: Membership>(history: &History, packet: &PacketView<'_>) -> bool
+/// Whether the parts of the packet are for exactly the addressees of its message. It takes no memory.
+///
+/// The message is new to the history and its predecessors are there, and a create stands over the empty history.
+pub fn parts_suit<G: Membership>(history: &History, packet: &PacketView<'_>) -> bool
     requires stand { (i : Id) → In i (message_of packet.now.header).predecessors
         → Stands (history_of history.now) i }
     requires new { Stands (history_of history.now) (message_of packet.now.header).id → ⊥ }
-    requires create { (members : List Id) → (message_of packet.now.header).kind ≡ Create members → ⊥ }
+    requires create { StandsWell (history_of history.now) (message_of packet.now.header)
+        (message_of packet.now.header).kind }
     ensures { IsTrue result ↔ SendsParts G.rule (history_of history.now) (message_of packet.now.header)
         (ids_of_parts packet.now.parts) }
 {
