@@ -1,0 +1,2 @@
+pub mod Welcomes
+pub mod Joining

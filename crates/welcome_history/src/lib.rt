@@ -1,0 +1,17 @@
+//! The packet that takes a member into a group: the verdict on it, and the history that an add hands on.
+#![tactic(auto)]
+
+mod cards;
+mod cards_held;
+mod creating;
+mod first;
+mod invitation;
+mod reading;
+mod row_held;
+mod rows_judged;
+
+pub use first::judge_first;
+pub use reading::read_welcome;
+
+#[cfg(test)]
+mod tests;
