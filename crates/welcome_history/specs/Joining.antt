@@ -1,4 +1,5 @@
--- What a member that is in no group yet judges a packet by, and the verdicts on it, in order. docs/GROUP.md, "Verdicts".
+-- What a member that is in no group yet judges a packet by, and the verdicts on it, in order. docs/GROUP.md,
+-- "Verdicts".
 use Rattle.std.specs.Prelude.{◌≡◌, ◌≢◌, ◌↔◌, ℕ, suc, Bool, true, List, [], ◌∷◌, ◌++◌, map, replicate, Option}
 use Rattle.std.specs.Prelude.{Some, None}
 use Rattle.group_fields.specs.Cards.{card_id}
@@ -45,8 +46,8 @@ pub record CardsHold (F : Joining) (welcome : WelcomeRows) : Type 0 where
   pub public : (card : Card) → In card welcome.cards → F.is_public card.kem_public ≡ true
 
 -- The row may stand behind the older ones in the history of a group: it is new there and forks with none, it is of the
--- member's set and of the group, its predecessors stand, and it is valid over its past, by these cards; of the first row
--- the conditions of a create are asked.
+-- member's set and of the group, its predecessors stand, and it is valid over its past, by these cards; of the first
+-- row the conditions of a create are asked.
 pub record RowHolds (F : Joining) (group : Id) (cards : List Card) (older : List Row) (header : Header) : Type 0 where
   pub fresh : Stands (history_of older) (message_of header).id → ⊥
   pub unforked : IsUnforked (history_of older) (message_of header)

@@ -18,7 +18,7 @@ use member_view::Membership;
 use std::alloc::Global;
 use wire_codec::{HistoryView, PacketView, packets_are_in_order};
 
-// The verdict on an add that takes the member into a group: on the history that it hands on, and then over this history.
+// The verdict on an add that takes the member into a group: on the history that it hands on, and then over it.
 fn judge_add<K: Kem, G: Membership>(
     alloc: Global,
     me: &MemberId,

@@ -42,8 +42,8 @@ fn is_somebody(id: &MemberId) -> bool
     *id != MemberId(Digest([0; 32]))
 }
 
-/// Whether the packet takes the member into a group: it is of the member's set, by its inviter, who is somebody else, and
-/// creates a group with it or adds it.
+/// Whether the packet takes the member into a group: it is of the member's set, by its inviter, who is somebody else,
+/// and creates a group with it or adds it.
 pub(crate) fn is_invitation<K: Kem>(
     me: &MemberId,
     inviter: &MemberId,

@@ -71,9 +71,9 @@ use Sort::{
     Remove, Text, Update,
 };
 
-/// A message: its sender, its number, its kind; what it is about: the members by a bit for each person, or a person, or a
-/// message; the messages that it follows; what it carries: parts by a bit for each person, or a history by its number; who
-/// signs it, and by which leaf.
+/// A message: its sender, its number, its kind; what it is about: the members by a bit for each person, or a person,
+/// or a message; the messages that it follows; what it carries: parts by a bit for each person, or a history by its
+/// number; who signs it, and by which leaf.
 type Told = (u8, u8, Sort, u8, &'static [u8], u8, u8, u8);
 
 const MESSAGES: [Told; 87] = [
