@@ -4,4 +4,5 @@ pub mod CreateCards
 pub mod Firsts
 pub mod Leading
 pub mod Readable
+pub mod ReadyRows
 pub mod RowHeld

@@ -6,11 +6,13 @@ mod cards_held;
 mod creating;
 mod first;
 mod invitation;
+mod laws;
 mod reading;
 mod row_held;
 mod rows_judged;
 
 pub use first::judge_first;
+pub use laws::what_is_ready_may_be_read;
 pub use reading::read_welcome;
 
 #[cfg(test)]

@@ -4,18 +4,19 @@
 
 mod making;
 
-use crate::{judge_first, read_welcome};
+use crate::{judge_first, read_welcome, what_is_ready_may_be_read};
 use causal_cast::Verdict::{
     self, BadKind, BadOrder, BadSignature, NotInvited, NotMember, Ready, Stranger,
 };
 use causal_history::History;
 use group_fields::{Digest, GroupId, Ids, Kind, MemberId, MessageId, Target};
+use group_messages::targets_say_the_kind;
 use making::*;
 use member_view::RemoveWins;
 use ntru_prime::Drill37;
 use std::alloc::Global;
 use std::test::Fail;
-use wire_codec::PacketView;
+use wire_codec::{PacketView, packets_are_in_order};
 
 /// Nobody, whose id is 32 zero bytes.
 const NOBODY: u8 = 255;
@@ -648,14 +649,18 @@ fn read(
     inviter: &MemberId,
     packet: &PacketView<'_>,
 ) -> Result<History, Fail> {
+    let _bytes = packet.bytes();
+    packets_are_in_order();
+    targets_say_the_kind();
+    what_is_ready_may_be_read();
     match judge_first::<Drill37, RemoveWins>(alloc, me, inviter, packet)? {
         Ready => {}
         _ => return Err(Fail::new("a packet that isn't ready")),
     }
-    if packet.history().is_none() {
-        return Err(Fail::new("a packet without a history"));
+    match packet.history() {
+        Some(_welcome) => Ok(read_welcome(alloc, packet)?),
+        None => Err(Fail::new("a packet without a history")),
     }
-    Ok(read_welcome(alloc, packet)?)
 }
 
 /// The id of a row, where there is one.
@@ -736,115 +741,5 @@ fn misread(alloc: Global) -> Result<Option<u8>, Fail> {
 #[test]
 fn histories_are_read(rt: HostRuntime) -> Result<(), Fail> {
     assert_eq!(rt; misread(rt.alloc())?, None);
-    Ok(())
-}
-
-/// A message of ada's that follows one.
-fn next_of(
-    alloc: Global,
-    ada: MemberId,
-    seq: u32,
-    kind: Kind,
-    target: Target,
-    last: Digest,
-) -> Result<Says, Fail> {
-    Ok(Says {
-        set: 2,
-        group: group_of(Text),
-        sender: ada,
-        seq,
-        kind,
-        target,
-        after: sorted([last].to_vec(alloc)?),
-    })
-}
-
-/// Appends ada's text of a number behind her last message, and answers its id.
-fn append_text(
-    alloc: Global,
-    rows: &mut Rows,
-    ada: MemberId,
-    seq: u32,
-    last: Digest,
-) -> Result<Digest, Fail> {
-    let says = next_of(alloc, ada, seq, Kind::Text, Target::Nothing, last)?;
-    let header = header_with(alloc, says, &[])?;
-    append_row(rows, header.as_slice())?;
-    Ok(digest(header.as_slice()))
-}
-
-/// Appends ada's texts from her third message on, and answers the id of the last.
-fn append_texts(alloc: Global, group: &Group, rows: &mut Rows, next: u32) -> Result<Digest, Fail> {
-    let ada = group.member(ADA)?;
-    let mut last = group.message_id(4)?.0;
-    for seq in 3..next {
-        last = append_text(alloc, rows, ada, seq, last)?;
-    }
-    Ok(last)
-}
-
-/// What ada's add of dora carries over these rows.
-fn long_body(alloc: Global, group: &Group, rows: &Rows) -> Result<Vec<u8>, Fail> {
-    let ids = ids_of(alloc, group.people.as_slice(), 7)?;
-    let handed_on = history_bytes(alloc, group.people.as_slice(), ids.as_slice(), rows)?;
-    addition_body(
-        alloc,
-        at(group.people.as_slice(), DORA)?,
-        handed_on.as_slice(),
-    )
-}
-
-/// Ada's add of dora of a number over these rows, behind the last. Bob signs it, so its signature is not good.
-fn long_add(
-    alloc: Global,
-    group: &Group,
-    rows: &Rows,
-    seq: u32,
-    last: Digest,
-) -> Result<Letter, Fail> {
-    let body = long_body(alloc, group, rows)?;
-    let target = Target::Member(group.member(DORA)?);
-    let says = next_of(alloc, group.member(ADA)?, seq, Kind::Add, target, last)?;
-    new_letter(
-        alloc,
-        says,
-        body.as_slice(),
-        at(group.people.as_slice(), BOB)?,
-        0,
-    )
-}
-
-/// Ada's add of dora of a number, over the group's first messages and texts of hers.
-fn add_behind_texts(alloc: Global, group: &Group, seq: u32) -> Result<Letter, Fail> {
-    let mut rows = rows_of(alloc, group.letters.as_slice(), &[0, 1, 2, 4])?;
-    let last = append_texts(alloc, group, &mut rows, seq)?;
-    long_add(alloc, group, &rows, seq, last)
-}
-
-/// What dora finds of ada's add of a number behind her texts.
-fn found_behind_texts(alloc: Global, group: &Group, seq: u32) -> Result<Verdict, Fail> {
-    let add = add_behind_texts(alloc, group, seq)?;
-    found(
-        alloc,
-        group.member(DORA)?,
-        group.member(ADA)?,
-        add.packet.as_slice(),
-    )
-}
-
-/// What dora finds of adds over 4,094 and over 4,095 rows.
-fn found_where_full(alloc: Global) -> Result<(Verdict, Verdict), Fail> {
-    let group = new_group(alloc)?;
-    Ok((
-        found_behind_texts(alloc, &group, 4093)?,
-        found_behind_texts(alloc, &group, 4094)?,
-    ))
-}
-
-#[test]
-fn a_long_history_is_full(rt: HostRuntime) -> Result<(), Fail> {
-    let (below, full) = found_where_full(rt.alloc())?;
-    assert!(rt; below == BadSignature);
-    assert!(rt; full == Verdict::HistoryFull(4095));
     Ok(())
 }
