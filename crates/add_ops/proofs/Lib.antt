@@ -1,0 +1,2 @@
+mod AddMoves
+mod Forgotten

@@ -80,7 +80,7 @@ pub fn take_add<K: Kem>(
     join::<K>(book, history, own);
     let opened = open_part::<K>(alloc, book, place, part)?;
     hand_ratchet::<K>(book, place, where_own(own, opened));
-    let learned = move_add::<K>(book, add.id(), place, target)?;
+    let learned = move_add::<K>(book, add, place, target)?;
     Ok(Taken {
         took: opened.is_some(),
         learned,
