@@ -8,8 +8,9 @@ use Rattle.kem_trait.specs.declared.kem.Kem.{Ghosts}
 use Rattle.group_model.specs.KeyTerms.{Once, add_word, secret_known, welcome_word}
 use Rattle.group_model.specs.Knowledge.{payload_in}
 use Rattle.group_model.specs.Marks.{IsPlace}
-use Rattle.group_model.specs.Membership.{ids_named}
-use Rattle.group_model.specs.Messages.{Add, AddAck, History, Message}
+use Rattle.group_model.specs.Membership.{ids_named, named_by}
+use Rattle.group_model.specs.Membership.{joined as joined_ids}
+use Rattle.group_model.specs.Messages.{Add, AddAck, History, Kind, Message}
 use Rattle.group_model.specs.Pairing.{Part}
 use Rattle.group_model.specs.Primitives.{Primitives}
 use Rattle.group_model.specs.Sets.{Bytes, Id, has}
@@ -111,22 +112,26 @@ module _ {K P : Type 0} (kem : Ghosts K P) (O : Owner) (m : Message) (y : Id) (i
   welcome-is = steps-give kem O ids p m.sender place (Some welcome_word) b state first
       ∙ gives-out O.primitives welcome_word (state.ratchet m.sender)
 
-  pub moves-add : (Kept : HeldStands kem O ids by_welcome (step O.primitives m.sender (Some welcome_word) state)
-      → q < length ids → HeldStands kem O ids kept
-      (keep m.id (id_at ids q ∷ []) (λ z. welcome) (step O.primitives m.sender (Some welcome_word) state)))
+  abbrev one : BookState
+  one = step O.primitives m.sender (Some welcome_word) state
+
+  pub moves-add : (x : HeldBook) → x ≡ by_welcome → (input : Option Bytes) → input ≡ welcome → (i : Id) → i ≡ m.id
+      → (Kept : HeldStands kem O ids x one → q < length ids → HeldStands kem O ids kept (keep i (id_at ids q ∷ []) (λ z. input) one))
       → after ≡ stepped (primitives_of kem) p (Some add_word) kept
       → (learned : Option Bytes) → learned ≡ secret_by (primitives_of kem) (Some add_word) (kept.ratchet p)
       → MovesAdd kem O m y ids state learned after
-  moves-add Kept is learned says =
-      let one : BookState = step O.primitives m.sender (Some welcome_word) state in
+  moves-add x is_x input is_input i is_id Kept is learned says =
       let two : BookState = keep m.id (y ∷ []) (λ z. welcome_of O (state.ratchet m.sender)) one in
+      let held_x : HeldStands kem O ids x one = subst (λ (z : HeldBook). HeldStands kem O ids z one) (sym is_x)
+      (steps-stand kem O ids p m.sender place (Some welcome_word) b state first) in
       let held_two : HeldStands kem O ids kept two =
-      subst (λ (v : Option Bytes). HeldStands kem O ids kept (keep m.id (y ∷ []) (λ z. v) one)) welcome-is
-      (subst (λ (z : Id). HeldStands kem O ids kept (keep m.id (z ∷ []) (λ u. welcome) one)) (id-at-place ids q y target)
-      (Kept (steps-stand kem O ids p m.sender place (Some welcome_word) b state first) (slice_get_within ids q y target))) in
+      subst (λ (v : Option Bytes). HeldStands kem O ids kept (keep m.id (y ∷ []) (λ z. v) one)) (is_input ∙ welcome-is)
+      (subst (λ (j : Id). HeldStands kem O ids kept (keep j (y ∷ []) (λ z. input) one)) is_id
+      (subst (λ (u : Id). HeldStands kem O ids kept (keep i (u ∷ []) (λ z. input) one)) (id-at-place ids q y target)
+      (Kept held_x (slice_get_within ids q y target)))) in
       let then : CallsStand kem O ids p kept two = Calls p kept two held_two within in record {
         learned = says ∙ steps-give kem O ids p m.sender place (Some add_word) kept two then;
-        stands = subst (λ (x : HeldBook). HeldStands kem O ids x (added O m y state)) (sym is)
+        stands = subst (λ (z : HeldBook). HeldStands kem O ids z (added O m y state)) (sym is)
             (steps-stand kem O ids p m.sender place (Some add_word) kept two then);
       }
 
@@ -150,24 +155,24 @@ module _ {K P : Type 0} (kem : Ghosts K P) (O : Owner) (h : History) (m : Messag
   ids = ids_named (m ∷ h)
 
   pub takes-add : (part : Option Part) (own : Bool) → own ≡ bytes_eq y O.id → (state : BookState) (answer : Option Bytes) (b : HeldBook)
-      → Opens kem O ids p part answer (joined O h y state) b → (took : Bool) → took ≡ is_some answer → (x after : HeldBook)
+      → Opens kem O ids p part answer (joined kem O h m y state) b → (took : Bool) → took ≡ is_some answer → (x after : HeldBook)
       → (Handed : (t : BookState) → HeldStands kem O ids b t → p < length ids
       → HeldStands kem O ids x (hand (id_at ids p) (cond own answer None) t))
       → (learned : Option Bytes)
       → (Moves : (t : BookState) → HeldStands kem O ids x t → MovesAdd kem O m y ids t learned after)
       → TakesAdd kem O h m y part state (record { took = took; learned = learned }) after
   takes-add part own is_own state answer b opens took tells x after Handed learned Moves =
-      let before : BookState = joined O h y state in
+      let before : BookState = joined kem O h m y state in
       let payload : answer ≡ opens_to O m part before = opened-payload kem O ids p m.sender place part answer before b opens in
       let stands : HeldStands kem O ids b (opened O m part before) =
       opened-stands kem O ids p m.sender place part answer before b opens in
-      let hears : HeldStands kem O ids x (heard O m y part before) =
+      let hears : HeldStands kem O ids x (heard kem O h m y part before) =
       subst (λ (v : Option Bytes). HeldStands kem O ids x (hand m.sender (cond (bytes_eq y O.id) v None) (opened O m part before))) payload
       (subst (λ (t : Bool). HeldStands kem O ids x (hand m.sender (cond t answer None) (opened O m part before))) is_own
       (subst (λ (z : Id). HeldStands kem O ids x (hand z (cond own answer None) (opened O m part before)))
       (id-at-place ids p m.sender place)
       (Handed (opened O m part before) stands (slice_get_within ids p m.sender place)))) in
-      let moves = Moves (heard O m y part before) hears in record {
+      let moves = Moves (heard kem O h m y part before) hears in record {
         took = tells ∙ ap is_some payload;
         learned = moves.learned;
         stands = moves.stands;
@@ -199,3 +204,7 @@ module _ {K P : Type 0} (kem : Ghosts K P) (O : Owner) (h : History) (m : Messag
         stands = subst (λ (z : HeldBook). HeldStands kem O (ids_named h) z (calls.take_add_ack O m part state)) (sym is)
             (steps-stand kem O (ids_named h) p m.sender place (Some add_word) x seen (Calls seen hears));
       }
+
+-- the answer names nobody
+pub answer-names : (h : History) (m : Message) (i : Id) → m.kind ≡ AddAck i → ids_named (m ∷ h) ≡ ids_named h
+answer-names h m i kind = ap (λ (k : Kind). joined_ids (ids_named h) (named_by k)) kind

@@ -1,11 +1,14 @@
 -- Forgetting the senders of rows one by one is what the model does with them.
-use Rattle.std.proofs.Common.{◌≡◌, ◌∙◌, ℕ, ◌+◌, ◌<◌, Bool, true, false, cond, List, [], ◌∷◌, length, None, refl, ap, sym, subst, take, slice_get, Some}
+use Rattle.std.proofs.Common.{◌≡◌, ◌∙◌, ℕ, ◌+◌, ◌<◌, Bool, true, false, cond, List, [], ◌∷◌, ◌++◌, ◌≤◌, arith, length, length-append, None, refl, ap, sym, subst, take, slice_get, Some}
 use Rattle.std.specs.Prelude.{bytes_eq}
 use Rattle.std.proofs.lemmas.Option.{get_or_from_slice_get, slice_get_within}
 use Rattle.kem_trait.specs.declared.kem.Kem.{Ghosts}
-use Rattle.group_model.specs.Sets.{Id}
+use Rattle.group_model.specs.Sets.{Id, In, here, has}
+use Rattle.group_model.specs.Membership.{ids_named, named_by, with_id}
+use Rattle.group_model.specs.Membership.{joined as joined_ids}
 use Rattle.group_model.specs.Marks.{IsPlace}
-use Rattle.group_model.specs.Messages.{Message, History}
+use Rattle.group_model.specs.Messages.{Add, Kind, Message, History}
+use Rattle.group_model.proofs.ListFacts.{yes_is, no_is, test, has-In, In-right}
 use Rattle.group_model.specs.Settings.{Owner}
 use Rattle.group_keys.specs.Primitives.{primitives_of}
 use Rattle.causal_history.specs.Rows.{Row, history_of, row_message}
@@ -65,10 +68,27 @@ module _ {K P : Type 0} (kem : Ghosts K P) (ids : List Id) where
       (more-forgotten (row_message row) (history_of (take i rows)) before now after k j)
 
 -- who is added by its place
-pub joined-where : (O : Owner) (h : History) (y : Id) (own : Bool) (state : BookState) → own ≡ bytes_eq y O.id
-    → welcomed O.primitives (cond own h []) state ≡ joined O h y state
-joined-where O h y own state e = subst (λ (t : Bool). welcomed O.primitives (cond own h []) state ≡ cond t (welcomed O.primitives h state) state) e (of own)
+pub joined-where : {K P : Type 0} (kem : Ghosts K P) (O : Owner) (h : History) (m : Message) (y : Id) (own : Bool) (state : BookState)
+    → own ≡ bytes_eq y O.id → welcomed O.primitives (cond own h []) state ≡ joined kem O h m y state
+joined-where kem O h m y own state e =
+    subst (λ (t : Bool). welcomed O.primitives (cond own h []) state ≡ cond t (welcomed O.primitives h state) state) e (of own)
   where
     of : (t : Bool) → welcomed O.primitives (cond t h []) state ≡ cond t (welcomed O.primitives h state) state
     of true = refl
     of false = refl
+
+one-longer : (ids : List Id) (i : Id) (t : Bool) → length ids ≤ length (cond t ids (ids ++ i ∷ []))
+one-longer ids i true = omega arith
+one-longer ids i false = let e = length-append ids (i ∷ []) in omega (arith, e)
+
+-- no id is lost
+pub longer : (ids more : List Id) → length ids ≤ length (joined_ids ids more)
+longer ids [] = omega arith
+longer ids (i ∷ more) = let l = longer (with_id ids i) more in let k = one-longer ids i (has ids i) in omega (arith, k, l)
+
+-- who is added is named
+pub added-in : (h : History) (m : Message) (y : Id) → Add y ≡ m.kind → In y (ids_named (m ∷ h))
+added-in h m y e = subst (λ (k : Kind). In y (joined_ids (ids_named h) (named_by k))) e (elim (test (has (ids_named h) y)) [
+  | yes_is t ↦ rw t (has-In (ids_named h) y t)
+  | no_is f ↦ rw f (In-right (ids_named h) here)
+])

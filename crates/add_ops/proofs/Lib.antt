@@ -1,2 +1,3 @@
 mod AddMoves
 mod Forgotten
+mod TestFacts

@@ -18,8 +18,9 @@ fn row_place(history: &History, index: u32) -> u8
     requires row { index < length history.now }
     requires senders { (m : Message) → In m (history_of history.now)
         → In m.sender (ids_named (history_of history.now)) }
-    ensures { (m : Message) → HasNumber (history_of history.now) index m
+    ensures place { (m : Message) → HasNumber (history_of history.now) index m
         → IsPlace (ids_named (history_of history.now)) result m.sender }
+    ensures within { result < length (ids_named (history_of history.now)) }
 {
     match history.place(&history.row(index).sender()) {
         Some(place) => place,
