@@ -10,7 +10,7 @@ use Rattle.group_model.specs.Knowledge.{payload_in}
 use Rattle.group_model.specs.Marks.{IsPlace}
 use Rattle.group_model.specs.Membership.{ids_named, named_by}
 use Rattle.group_model.specs.Membership.{joined as joined_ids}
-use Rattle.group_model.specs.Messages.{Add, AddAck, History, Kind, Message}
+use Rattle.group_model.specs.Messages.{AddAck, History, Kind, Message}
 use Rattle.group_model.specs.Pairing.{Part}
 use Rattle.group_model.specs.Primitives.{Primitives}
 use Rattle.group_model.specs.Sets.{Bytes, Id, has}
@@ -18,11 +18,11 @@ use Rattle.group_model.specs.Settings.{Owner}
 use Rattle.group_model.proofs.ListFacts.{yes_is, no_is, test}
 use Rattle.group_keys.specs.Primitives.{primitives_of}
 use Rattle.member_book.specs.Books.{BookState, hand, keep, open_from, put, step, step_gives}
-use Rattle.member_book.specs.BooksAfter.{added, gained, welcome_of}
+use Rattle.member_book.specs.BooksAfter.{added, welcome_of}
 use Rattle.member_book.specs.Calls as calls
 use Rattle.member_book.specs.Calls.{opened, opens_to}
 use Rattle.member_book.specs.Places.{id_at}
-use Rattle.secret_book.specs.HeldBooks.{HeldBook, handed, secret_by, stepped, with_kept}
+use Rattle.secret_book.specs.HeldBooks.{HeldBook, secret_by, stepped}
 use Rattle.book_standing.specs.Standing.{CallsStand, HeldStands}
 use Rattle.opened_parts.specs.Opening.{Opens}
 use Rattle.add_ops.specs.Moves.{MovesAdd}

@@ -1,4 +1,4 @@
-use Rattle.std.proofs.Common.{◌≡◌, ◌∷◌, List, subst}
+use Rattle.std.proofs.Common.{List, subst}
 use Rattle.std.proofs.lemmas.Option.{slice_get_within}
 use Rattle.causal_history.specs.Rows.{history_of}
 use Rattle.group_messages.specs.Messages.{message_of}

@@ -1,4 +1,4 @@
-use Rattle.std.proofs.Common.{◌≡◌, subst, sym}
+use Rattle.std.proofs.Common.{subst, sym}
 use Rattle.std.proofs.lemmas.Option.{slice_get_within}
 use Rattle.causal_history.specs.Rows.{history_of}
 use Rattle.group_fields.specs.declared.ids.MemberId.{MemberId}

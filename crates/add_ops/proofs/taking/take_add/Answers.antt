@@ -1,9 +1,8 @@
-use Rattle.std.proofs.Common.{◌≡◌, ◌∷◌, Option, nat_eq, sym, subst, arith}
-use Rattle.std.specs.Prelude.{IsSome}
+use Rattle.std.proofs.Common.{◌∷◌, Option, nat_eq, subst}
 use Rattle.std.proofs.lemmas.Option.{slice_get_within}
 use Rattle.causal_history.specs.Rows.{history_of}
 use Rattle.group_messages.specs.Messages.{message_of}
-use Rattle.group_model.specs.Membership.{ids_named, named_by}
+use Rattle.group_model.specs.Membership.{ids_named}
 use Rattle.group_model.specs.Sets.{Bytes}
 use Rattle.group_model.proofs.Places.{place-distinct, place-stays}
 use Rattle.group_model.proofs.RemoveWins.{ids_named-distinct}
@@ -13,7 +12,7 @@ use Rattle.secret_book.specs.HeldBooks.{held}
 use Rattle.book_standing.specs.Standing.{HeldStands}
 use Rattle.add_ops.specs.Taking.{joined}
 use Rattle.add_ops.proofs.AddMoves.{own-place, takes-add}
-use Rattle.add_ops.proofs.Forgotten.{joined-where, longer}
+use Rattle.add_ops.proofs.Forgotten.{joined-where}
 use Rattle.add_ops.proofs.taking.take_add.Goals as goal
 
 pub returns : goal.returns
