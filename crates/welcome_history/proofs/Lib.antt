@@ -2,7 +2,9 @@ pub mod CardsFor
 pub mod CardsHeld
 pub mod CreateCards
 pub mod Firsts
+pub mod HandedOn
 pub mod Leading
 pub mod Readable
 pub mod ReadyRows
 pub mod RowHeld
+pub mod Sorting
