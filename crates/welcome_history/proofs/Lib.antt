@@ -4,6 +4,7 @@ pub mod CreateCards
 pub mod Firsts
 pub mod HandedOn
 pub mod Leading
+pub mod ReadBack
 pub mod Readable
 pub mod ReadyRows
 pub mod RowHeld

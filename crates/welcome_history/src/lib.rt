@@ -14,7 +14,7 @@ mod rows_judged;
 mod writing;
 
 pub use first::judge_first;
-pub use laws::what_is_ready_may_be_read;
+pub use laws::{what_is_handed_on_reads_back, what_is_ready_may_be_read};
 pub use reading::read_welcome;
 pub use writing::{append_welcome, welcome_len};
 

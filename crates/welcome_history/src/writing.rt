@@ -123,10 +123,10 @@ fn cards_len(history: &History) -> usize {
 /// How many bytes `append_welcome` writes, as a measure for the room of a buffer.
 pub fn welcome_len(history: &History) -> usize {
     let mut len = cards_len(history).saturating_add(2);
-    for index in 0..history.count() {
+    for row in 0..history.count() {
         len = len
             .saturating_add(2)
-            .saturating_add(history.row(index).bytes().len());
+            .saturating_add(history.row(row).bytes().len());
     }
     len
 }
