@@ -1,2 +1,3 @@
+pub mod Making
 pub mod Moves
 pub mod Taking

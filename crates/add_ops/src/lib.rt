@@ -2,11 +2,13 @@
 //! learns is what the model's book gives.
 #![tactic(auto)]
 
+mod adding;
 mod answering;
 mod joining;
 mod moves;
 mod taking;
 
+pub use adding::make_add;
 pub use answering::{make_add_ack, take_add_ack};
 pub use taking::take_add;
 
