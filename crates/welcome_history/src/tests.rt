@@ -3,6 +3,7 @@
 //! member finds of what is handed to it.
 
 mod making;
+mod writing;
 
 use crate::{judge_first, read_welcome, what_is_ready_may_be_read};
 use causal_cast::Verdict::{

@@ -163,6 +163,11 @@ pub fn is_card_of(person: &Person, bytes: &[u8]) -> bool {
     person.card.as_slice() == bytes
 }
 
+/// The bytes of the person's card.
+pub fn card_of(person: &Person) -> &[u8] {
+    person.card.as_slice()
+}
+
 /// A message as it is handed on.
 #[derive(Drop)]
 pub struct Letter {
