@@ -1,12 +1,13 @@
 -- Receivers that are put one after the other at their places in the order of ids.
-use Rattle.std.proofs.Common.{◌≡◌, ℕ, ◌<◌, ◌≤◌, ◌+◌, ◌⊎◌, inl, inr, Bool, true, false, List, [], ◌∷◌, ◌++◌, length, map, take, drop, refl, sym, ◌∙◌, ap, subst, arith}
+use Rattle.std.proofs.Common.{◌≡◌, ℕ, zero, suc, get_or, ◌<◌, ◌≤◌, ◌+◌, ◌⊎◌, inl, inr, Bool, true, false, List, [], ◌∷◌, ◌++◌, length, map, take, drop, refl, sym, ◌∙◌, ap, subst, arith}
 use Rattle.std.specs.List.{insert}
 use Rattle.std.specs.Ordering.{nat_cmp, is_lt}
 use Rattle.std.specs.Cmp.Lexicographic.{slice_cmp}
 use Rattle.std.proofs.lemmas.Bool.{cases_lt}
-use Rattle.std.proofs.lemmas.List.{take-append-drop, take-map, drop-map, length-map}
+use Rattle.std.proofs.lemmas.List.{take-append-drop, take-map, drop-map, length-map, length-take}
 use Rattle.std.proofs.lemmas.List.Edits.{length-insert}
 use Rattle.std.proofs.lemmas.Option.{slice_get_within}
+use Rattle.group_fields.specs.declared.ids.MemberId.{MemberId}
 use Rattle.group_model.specs.Sets.{Id, In, here, there, IsAscending, IsDistinct}
 use Rattle.group_model.specs.Marks.{IsPlace, IsCrowd}
 use Rattle.group_model.specs.Membership.{AreAddressees, IsAddressee}
@@ -15,6 +16,7 @@ use Rattle.group_model.specs.Plain.{place}
 use Rattle.group_model.proofs.Ascending.{In-placed, into-ascending, into-placed}
 use Rattle.group_model.proofs.ListFacts.{test, yes_is, no_is, In-cases, In-either, In-head, In-left, In-right}
 use Rattle.group_model.proofs.Places.{in-place, place-distinct, place-one}
+use Rattle.causal_history.proofs.ListMore.{map-append, take-next}
 use Rattle.body_parts.specs.declared.addressing.Receiver.{Receiver}
 use Rattle.body_parts.specs.Receivers.{ArePlaced, AreReceivers, id_to, ids_to}
 
@@ -48,10 +50,6 @@ inserted-in xs n y x k = elim (In-either (take n xs) k) [
     | inr r ↦ inr (subst (λ z. In x z) (take-append-drop n xs) (In-right (take n xs) r))
   ]
 ]
-
-map-append : {A B : Type 0} (f : A → B) (xs ys : List A) → map f (xs ++ ys) ≡ map f xs ++ map f ys
-map-append f [] ys = refl
-map-append f (x ∷ xs) ys = ap (λ z. f x ∷ z) (map-append f xs ys)
 
 -- the ids with one more
 ids-inserted : (to : List Receiver) (n : ℕ) (r : Receiver) → ids_to (insert to n r) ≡ take n (ids_to to) ++ id_to r ∷ drop n (ids_to to)
@@ -154,6 +152,27 @@ module _ (ids : List Id) (bits : ℕ → Bool) (bound : ℕ) (to : List Receiver
     few = omega (arith, g.few, few);
     fewer = λ p l bit. let m : length to + 1 ≤ bound = g.fewer p (omega (arith, l, whole)) bit in omega (arith, m, few);
   }
+
+-- ---- members in the order of their places
+
+abbrev pub ids_in : List MemberId → List Id
+ids_in members = map (λ (id : MemberId). id.0.0) members
+
+pub placed-at : (members : List MemberId) (p : ℕ) (none : MemberId) → p < length members → IsPlace (ids_in members) p (get_or members p none).0.0
+placed-at [] p none l = absurd (omega (arith, l))
+placed-at (member ∷ members) zero none l = refl
+placed-at (member ∷ members) (suc p) none l = placed-at members p none (omega (arith, l))
+
+pub placed-more : (members more : List MemberId) (ids : List Id) (p : ℕ) (member : MemberId) → ids_in members ≡ take p ids
+    → IsPlace ids p member.0.0 → more ≡ members ++ member ∷ [] → ids_in more ≡ take (p + 1) ids
+placed-more members more ids p member so_far at pushed =
+    ap ids_in pushed ∙ map-append (λ (id : MemberId). id.0.0) members (member ∷ []) ∙ ap (λ (l : List Id). l ++ member.0.0 ∷ []) so_far
+    ∙ sym (take-next ids p member.0.0 at)
+
+pub few_members : (members : List MemberId) (ids : List Id) (p : ℕ) → ids_in members ≡ take p ids → p ≤ 32 → length members ≤ 32
+few_members members ids p e few =
+    let long : length (ids_in members) ≡ length members = length-map members (λ (id : MemberId). id.0.0) in
+    omega (arith, long, ap length e, length-take p ids, few)
 
 -- the receivers of a crowd are who has its property
 pub addressed : (rule : History → List Id) (h : History) (m : Message) (ids : List Id) (bits : ℕ → Bool) (to : List Receiver)

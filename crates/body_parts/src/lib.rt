@@ -6,7 +6,7 @@ mod draws;
 mod laws;
 mod parts;
 
-pub use addressing::{Receiver, receivers};
+pub use addressing::{Receiver, receivers, receivers_among};
 pub use draws::draw_for;
 pub use laws::receivers_are_addressees;
 pub use parts::{append_part, append_parts, can_reach, parts_body};
