@@ -1,4 +1,5 @@
 mod Crowds
+mod Founded
 mod KeptAnswers
 mod Moves
 mod TestFacts
