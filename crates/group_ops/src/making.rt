@@ -90,8 +90,8 @@ fn create_body<K: Kem>(
 /// seed, sealed to each of a crowd, ascending by their ids. Without cards the places of the crowd are those of the
 /// history; with cards, over the empty history, those of the cards, which ascend by their ids.
 ///
-/// A part can be made for each of the crowd. With `Memory`, where an allocation was refused, the book may have moved and
-/// is only to be closed.
+/// A part can be made for each of the crowd. With `Memory`, where an allocation was refused, the book may have moved
+/// and is only to be closed.
 pub fn make_seeded<K: Kem>(
     alloc: Global,
     book: &mut Book<K>,
