@@ -1,29 +1,83 @@
-//! A group of 32 members, and the headers of its first 4,000 messages, each of which follows the one before it.
+//! A group, and the headers of its first messages, each of which follows the one before it.
 //!
-//! They are made in 125 rounds of one message of each member. An even round is an operation, the create in the first
-//! and then updates, which the others acknowledge; an odd round is texts. What has no spelling is left empty: it shows
-//! in the digest that is printed.
+//! They are made in rounds of one message of each member, the creator first; each round begins with the member after
+//! the one that began the round before. An even round is an operation, the create in the first and then updates, which
+//! the others acknowledge; an odd round is texts. All of it is valid: the creator is the inviter of the others, and each
+//! card has the public key of a pair. What has no spelling is left empty: it shows in the digest that is printed.
+
+ghost use Rattle.std.specs.Prelude.{◌<◌};
 
 use group_fields::{
     Bytes, Card, Cards, Digest, GroupId, Header, HeaderView, Ids, Kind, MemberId, MessageId,
     Target, read_card, read_header, write_card, write_header,
 };
+use kem_trait::{Kem, KemRefusal, SeedWords};
+use ntru_prime::Drill37;
 use sha2::{Digest as Hasher, Sha256};
 use std::alloc::{AllocError, Global};
 
-const ROWS: u32 = 4000;
-
-const MEMBERS: u8 = 32;
-
-/// How many messages a member has made.
-const ROUNDS: u32 = 125;
-
-/// The set of the group, and the bytes of its public keys.
-const SET: u8 = 2;
-
+/// How many bytes a public key of the group's set has.
 const KEY: usize = 33;
 
 const NOBODY: MemberId = MemberId(Digest([0; 32]));
+
+/// How many members a group has, and how many messages each of them has made. A history names at most 32 ids, so where
+/// one more is to be taken in there are 31 members.
+#[derive(Clone, Copy)]
+pub(crate) enum Size {
+    /// 32 members with 4,000 messages.
+    Full,
+    /// 31 members with 1,984 messages.
+    Half,
+    /// 31 members with 3,968 messages.
+    Whole,
+}
+
+impl Size {
+    fn members(self) -> u8
+        ensures { 0 < result }
+    {
+        match self {
+            Size::Full => 32,
+            Size::Half | Size::Whole => 31,
+        }
+    }
+
+    fn messages(self) -> u32 {
+        match self {
+            Size::Full => 4000,
+            Size::Half => 1984,
+            Size::Whole => 3968,
+        }
+    }
+
+    /// How many messages each member has made before the round of the message with a number.
+    fn round(self, number: u32) -> u32 {
+        number / u32::from(self.members())
+    }
+
+    /// How many messages each member has made.
+    pub(crate) fn rounds(self) -> u32 {
+        self.round(self.messages())
+    }
+
+    /// The kind of the message with a number.
+    fn kind(self, number: u32) -> Kind {
+        let is_first = number % u32::from(self.members()) == 0;
+        match (self.round(number), is_first) {
+            (0, true) => Kind::Create,
+            (round, _) if round % 2 == 1 => Kind::Text,
+            (_, true) => Kind::Update,
+            (_, false) => Kind::Ack,
+        }
+    }
+
+    /// The place of the sender of the message with a number, with that of the creator.
+    fn place(self, creator: usize, number: u32) -> usize {
+        let behind = self.round(number).wrapping_add(number);
+        creator.wrapping_add(behind as usize) % usize::from(self.members())
+    }
+}
 
 /// A member, with the bytes of its card.
 #[derive(Drop)]
@@ -32,13 +86,15 @@ pub(crate) struct Member {
     pub(crate) card: Bytes,
 }
 
-/// The members in the order of their ids, the one among them whose LMS public key was given, and the bytes of the
+/// The members in the order of their ids, the creator among them, whose LMS public key was given, and the bytes of the
 /// headers, oldest first.
 #[derive(Drop)]
 pub(crate) struct Group {
-    pub(crate) signer: MemberId,
+    pub(crate) size: Size,
+    pub(crate) creator: MemberId,
     pub(crate) members: Vec<Member>,
     pub(crate) rows: Vec<Bytes>,
+    kem_public: [u8; KEY],
     last: MessageId,
     operation: MessageId,
 }
@@ -60,17 +116,29 @@ pub(crate) fn key_of_nobody(number: u8) -> [u8; 56] {
     key
 }
 
-/// A member by a number, with an LMS public key.
-pub(crate) fn new_member(
+/// The public key of a pair. Zeros where the seed gives no usable key.
+fn public_key(alloc: Global) -> Result<[u8; KEY], AllocError> {
+    let mut public = [0; KEY];
+    match Drill37::make(alloc, &mut SeedWords::new(&[1; 32])) {
+        Ok(pair) => Drill37::public(&pair, &mut public),
+        Err(KemRefusal::NoUsableKey) => {}
+        Err(KemRefusal::Memory) => return Err(AllocError),
+    }
+    Ok(public)
+}
+
+/// The member with these keys that only the inviter may take in.
+fn new_member(
     alloc: Global,
-    number: u8,
+    inviter: MemberId,
     lms_public: &[u8; 56],
+    kem_public: &[u8; KEY],
 ) -> Result<Member, AllocError> {
     let card = Card {
-        set: SET,
+        set: Drill37::SET,
         lms_public: *lms_public,
-        inviter: NOBODY,
-        kem_public: Bytes::from(vec![in alloc; number; KEY]?),
+        inviter,
+        kem_public: Bytes::from(kem_public.to_vec(alloc)?),
     };
     let card = spelled_card(alloc, &card)?;
     let id = MemberId(Digest(Sha256::digest(card.as_slice())));
@@ -93,42 +161,61 @@ fn spelled_header(alloc: Global, header: &Header) -> Result<Bytes, AllocError> {
     }
 }
 
-/// The kind of the message with a number.
-fn kind_of(number: u32) -> Kind {
-    match (number / 32, number % 32) {
-        (0, 0) => Kind::Create,
-        (round, _) if round % 2 == 1 => Kind::Text,
-        (_, 0) => Kind::Update,
-        _ => Kind::Ack,
-    }
-}
-
-/// The place of the sender of the message with a number: each round begins with the next member.
-fn place_of(number: u32) -> usize {
-    let place = (number / 32).wrapping_add(number) % 32;
-    place as usize
+/// The place of an id among the members.
+fn place_of(members: &[Member], id: &MemberId) -> usize {
+    members
+        .iter()
+        .position(|member| member.id == *id)
+        .unwrap_or(0)
 }
 
 impl Group {
-    /// The group whose signer has this LMS public key.
-    pub(crate) fn make(alloc: Global, lms_public: &[u8; 56]) -> Result<Group, AllocError> {
-        let signer = new_member(alloc, 0, lms_public)?;
-        let mut group = Group {
-            signer: signer.id,
-            members: vec![in alloc; signer]?,
-            rows: Vec::new(alloc),
-            last: MessageId(Digest([0; 32])),
-            operation: MessageId(Digest([0; 32])),
-        };
-        for number in 1..MEMBERS {
-            let next = new_member(alloc, number, &key_of_nobody(number))?;
-            group.members.push(next)?;
-        }
-        group.members.sort_by_key(|member| member.id)?;
-        for number in 0..ROWS {
+    /// The group of a size whose creator has this LMS public key.
+    pub(crate) fn make(
+        alloc: Global,
+        size: Size,
+        lms_public: &[u8; 56],
+    ) -> Result<Group, AllocError> {
+        let mut group = Group::found(alloc, size, lms_public)?;
+        group.invite_all(alloc)?;
+        for number in 0..size.messages() {
             group.put(alloc, number)?;
         }
         Ok(group)
+    }
+
+    /// The creator alone, whom nobody invited.
+    fn found(alloc: Global, size: Size, lms_public: &[u8; 56]) -> Result<Group, AllocError> {
+        let kem_public = public_key(alloc)?;
+        let creator = new_member(alloc, NOBODY, lms_public, &kem_public)?;
+        Ok(Group {
+            size,
+            creator: creator.id,
+            members: vec![in alloc; creator]?,
+            rows: Vec::new(alloc),
+            kem_public,
+            last: MessageId(Digest([0; 32])),
+            operation: MessageId(Digest([0; 32])),
+        })
+    }
+
+    /// A member by a number, whom the creator invites.
+    pub(crate) fn invited(&self, alloc: Global, number: u8) -> Result<Member, AllocError> {
+        new_member(
+            alloc,
+            self.creator,
+            &key_of_nobody(number),
+            &self.kem_public,
+        )
+    }
+
+    /// Adds the members besides the creator.
+    fn invite_all(&mut self, alloc: Global) -> Result<(), AllocError> {
+        for number in 1..self.size.members() {
+            let next = self.invited(alloc, number)?;
+            self.members.push(next)?;
+        }
+        self.members.sort_by_key(|member| member.id)
     }
 
     /// The ids of the members.
@@ -142,7 +229,8 @@ impl Group {
 
     /// The member whose turn it is to make the message with a number.
     fn sender(&self, number: u32) -> MemberId {
-        match self.members.get(place_of(number)) {
+        let creator = place_of(self.members.as_slice(), &self.creator);
+        match self.members.get(self.size.place(creator, number)) {
             Some(member) => member.id,
             None => NOBODY,
         }
@@ -155,7 +243,7 @@ impl Group {
             _ => Ids::from([self.last.0].to_vec(alloc)?),
         };
         let header = Header {
-            set: SET,
+            set: Drill37::SET,
             group: GroupId(Digest([1; 32])),
             sender: says.sender,
             seq: says.seq,
@@ -169,7 +257,7 @@ impl Group {
 
     /// Makes the header of the message with a number.
     fn put(&mut self, alloc: Global, number: u32) -> Result<(), AllocError> {
-        let kind = kind_of(number);
+        let kind = self.size.kind(number);
         let target = match kind {
             Kind::Create => Target::Members(self.ids(alloc)?),
             Kind::Ack => Target::Answer(self.operation, true),
@@ -177,21 +265,21 @@ impl Group {
         };
         let says = Says {
             sender: self.sender(number),
-            seq: number / 32 + 1,
+            seq: self.size.round(number).wrapping_add(1),
             kind,
             target,
             body: Digest([0; 32]),
         };
         let row = self.header(alloc, says)?;
         self.last = MessageId(Digest(Sha256::digest(row.as_slice())));
-        if number % 64 == 0 {
+        if kind == Kind::Create || kind == Kind::Update {
             self.operation = self.last;
         }
         self.rows.push(row)?;
         Ok(())
     }
 
-    /// The header of the signer's next message, with this body.
+    /// The header of the creator's next message, with this body.
     pub(crate) fn next(
         &self,
         alloc: Global,
@@ -200,8 +288,8 @@ impl Group {
         body: &[u8],
     ) -> Result<Bytes, AllocError> {
         let says = Says {
-            sender: self.signer,
-            seq: ROUNDS + 1,
+            sender: self.creator,
+            seq: self.size.rounds().wrapping_add(1),
             kind,
             target,
             body: Digest(Sha256::digest(body)),

@@ -2,9 +2,11 @@
 //! came of it in hexadecimal digits, so that two builds can be compared.
 #![tactic(auto)]
 
+mod firsts;
 mod group;
 mod histories;
 mod packets;
+mod signing;
 mod texts;
 mod work;
 

@@ -1,7 +1,7 @@
 //! The packet of an add that hands on the history of the group, its reading, and the digest of its body.
 
-use crate::group::{Group, Member, key_of_nobody, new_member};
-use group_fields::{Bytes, Kind, Target};
+use crate::group::{Group, Member, Size, key_of_nobody};
+use group_fields::{Bytes, Kind, MemberId, Target};
 use sha2::{Digest, Sha256};
 use std::alloc::{AllocError, Global};
 use wire_codec::{PacketView, write_packet};
@@ -14,11 +14,12 @@ pub(crate) const SIGNATURE: usize = 2508;
 /// Who is added.
 const ADDED: u8 = 32;
 
-/// The bytes of the header and of the body of an add.
+/// Who is added by an add, and the bytes of its header and of its body.
 #[derive(Drop)]
-struct Add {
-    header: Bytes,
-    body: Vec<u8>,
+pub(crate) struct Add {
+    pub(crate) added: MemberId,
+    pub(crate) header: Bytes,
+    pub(crate) body: Vec<u8>,
 }
 
 /// How many headers and cards were read, and the id of the last message.
@@ -73,7 +74,7 @@ fn append_rows(bytes: &mut Vec<u8>, rows: &[Bytes]) -> Result<(), AllocError> {
 
 /// The group with keys that nobody signs by.
 pub(crate) fn unsigned_group(alloc: Global) -> Result<Group, AllocError> {
-    Group::make(alloc, &key_of_nobody(0))
+    Group::make(alloc, Size::Full, &key_of_nobody(0))
 }
 
 /// The fixed fields of a signature of height 10, and zeros.
@@ -84,19 +85,28 @@ fn form_of_signature() -> [u8; SIGNATURE] {
     bytes
 }
 
-/// The add, by the signer.
-fn make_add(alloc: Global) -> Result<Add, AllocError> {
+/// The add by which the creator takes in one member more.
+pub(crate) fn make_add(alloc: Global, group: &Group) -> Result<Add, AllocError> {
+    let member = group.invited(alloc, ADDED)?;
+    let added = member.id;
+    let body = add_body(alloc, group, &member)?;
+    let header = group.next(alloc, Kind::Add, Target::Member(added), body.as_slice())?;
+    Ok(Add {
+        added,
+        header,
+        body,
+    })
+}
+
+/// The add in the group with keys that nobody signs by.
+fn unsigned_add(alloc: Global) -> Result<Add, AllocError> {
     let group = unsigned_group(alloc)?;
-    let added = new_member(alloc, ADDED, &key_of_nobody(ADDED))?;
-    let body = add_body(alloc, &group, &added)?;
-    let target = Target::Member(added.id);
-    let header = group.next(alloc, Kind::Add, target, body.as_slice())?;
-    Ok(Add { header, body })
+    make_add(alloc, &group)
 }
 
 /// Digests of the body. After each its first byte is changed by the digest.
 pub(crate) fn digest(alloc: Global, count: u32) -> Result<[u8; 32], AllocError> {
-    let mut add = make_add(alloc)?;
+    let mut add = unsigned_add(alloc)?;
     let mut last = [0u8; 32];
     for _ in 0..count {
         last = Sha256::digest(add.body.as_slice());
@@ -114,7 +124,7 @@ fn change(byte: Option<&mut u8>, more: u8) {
 
 /// Readings of the packet. After each the last byte of its signature is changed.
 pub(crate) fn parse(alloc: Global, count: u32) -> Result<[u8; 32], AllocError> {
-    let add = make_add(alloc)?;
+    let add = unsigned_add(alloc)?;
     let signature = form_of_signature();
     let packet = joined(
         alloc,

@@ -1,55 +1,37 @@
 //! The verdict of a member on a text that comes after the history of the group.
 
-ghost use Rattle.std.specs.Prelude.{◌≡◌, length};
+ghost use Rattle.std.specs.Prelude.{◌≡◌};
 
-use crate::group::Group;
+use crate::group::{Group, Size};
 use crate::histories::{digest_of, history_of, rows_of};
-use crate::packets::{SIGNATURE, joined};
+use crate::signing::{new_tree, signed};
 use causal_cast::{Verdict, judge as verdict_on, set_of};
 use causal_history::History;
-use group_fields::{Bytes, Digest as Id, Kind, MessageId, Target};
+use group_fields::{Bytes, Kind, Target};
 use kem_trait::Kem;
-use lms_sign::{Spent, Tree};
+use lms_sign::Tree;
 use member_view::RemoveWins;
 use ntru_prime::Drill37;
-use sha2::{Digest, Sha256};
 use std::alloc::{AllocError, Global};
 use wire_codec::PacketView;
 
 /// How many bytes a text of five bytes has with its tag and the length before it.
 const TEXT: usize = 39;
 
-/// The leaf for the next message of a member.
-const LEAF: u32 = 125;
-
-/// Signs a message by the leaf for the next one.
-fn sign(tree: &Tree, message: MessageId, signature: &mut [u8])
-    requires height { tree.now.height ≡ 10 }
-    requires size { length signature.old ≡ 2508 }
-{
-    match tree.leaf(LEAF, message) {
-        Ok(leaf) => tree.sign(leaf, signature),
-        Err(Spent) => {}
-    }
-}
-
-/// The packet of the signer's next text, signed.
+/// The packet of the creator's next text, signed.
 fn text(alloc: Global, group: &Group, tree: &Tree) -> Result<Bytes, AllocError>
     requires { tree.now.height ≡ 10 }
 {
     let mut body = [0u8; TEXT];
     body[1] = 5;
     let header = group.next(alloc, Kind::Text, Target::Nothing, &body)?;
-    let id = MessageId(Id(Sha256::digest(header.as_slice())));
-    let mut signature = [0u8; SIGNATURE];
-    sign(tree, id, &mut signature);
-    joined(alloc, header.as_slice(), &body, &signature)
+    signed(alloc, group, tree, header.as_slice(), &body)
 }
 
 /// Verdicts of another member on the text.
 pub(crate) fn judge(alloc: Global, count: u32) -> Result<[u8; 32], AllocError> {
-    let tree = Tree::make(alloc, 10, &[7; 16], &[0; 32])?;
-    let group = Group::make(alloc, &tree.public())?;
+    let tree = new_tree(alloc)?;
+    let group = Group::make(alloc, Size::Full, &tree.public())?;
     let rows = rows_of(alloc, &group)?;
     let history = history_of(alloc, &rows)?;
     let bytes = text(alloc, &group, &tree)?;
@@ -57,7 +39,7 @@ pub(crate) fn judge(alloc: Global, count: u32) -> Result<[u8; 32], AllocError> {
         return Ok([0; 32]);
     };
     // Another member: the one at place 0, or at place 1 where that is the sender.
-    let me = u8::from(history.place(&group.signer) == Some(0));
+    let me = u8::from(history.place(&group.creator) == Some(0));
     let mut ready = 0u32;
     for number in 0..count {
         ready = ready.wrapping_add(judge_one(&history, number % 2 == 0, me, &packet));

@@ -1,6 +1,7 @@
 //! The works that the program can do.
 
-use crate::{histories, packets, texts};
+use crate::group::Size;
+use crate::{firsts, histories, packets, texts};
 use std::alloc::{AllocError, Global};
 
 /// What is done with a packet or a history.
@@ -14,6 +15,10 @@ pub enum Work {
     Push4000,
     /// A text judged over this history, to be taken.
     JudgeText,
+    /// An add that hands on 1,984 headers and 31 cards judged by whom it adds, to be taken.
+    JudgeHalf,
+    /// An add that hands on 3,968 headers and 31 cards judged so.
+    JudgeWhole,
 }
 
 impl Work {
@@ -24,6 +29,8 @@ impl Work {
             "parse-add" => Some(Work::ParseAdd),
             "push-4000" => Some(Work::Push4000),
             "judge-text" => Some(Work::JudgeText),
+            "judge-half" => Some(Work::JudgeHalf),
+            "judge-whole" => Some(Work::JudgeWhole),
             _ => None,
         }
     }
@@ -35,6 +42,8 @@ impl Work {
             Work::ParseAdd => packets::parse(alloc, count),
             Work::Push4000 => histories::push(alloc, count),
             Work::JudgeText => texts::judge(alloc, count),
+            Work::JudgeHalf => firsts::judge(alloc, Size::Half, count),
+            Work::JudgeWhole => firsts::judge(alloc, Size::Whole, count),
         }
     }
 }
