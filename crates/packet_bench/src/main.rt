@@ -6,6 +6,7 @@ mod firsts;
 mod group;
 mod histories;
 mod packets;
+mod seeds;
 mod signing;
 mod texts;
 mod work;

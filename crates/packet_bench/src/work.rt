@@ -1,7 +1,7 @@
 //! The works that the program can do.
 
 use crate::group::Size;
-use crate::{firsts, histories, packets, texts};
+use crate::{firsts, histories, packets, seeds, texts};
 use std::alloc::{AllocError, Global};
 
 /// What is done with a packet or a history.
@@ -19,6 +19,10 @@ pub enum Work {
     JudgeHalf,
     /// An add that hands on 3,968 headers and 31 cards judged so.
     JudgeWhole,
+    /// What is drawn for parts to 31 members.
+    Draw31,
+    /// The same drawn, and the body of an update with a part for each of them.
+    Seeded31,
 }
 
 impl Work {
@@ -31,6 +35,8 @@ impl Work {
             "judge-text" => Some(Work::JudgeText),
             "judge-half" => Some(Work::JudgeHalf),
             "judge-whole" => Some(Work::JudgeWhole),
+            "draw-31" => Some(Work::Draw31),
+            "seeded-31" => Some(Work::Seeded31),
             _ => None,
         }
     }
@@ -44,6 +50,8 @@ impl Work {
             Work::JudgeText => texts::judge(alloc, count),
             Work::JudgeHalf => firsts::judge(alloc, Size::Half, count),
             Work::JudgeWhole => firsts::judge(alloc, Size::Whole, count),
+            Work::Draw31 => seeds::draw(alloc, count),
+            Work::Seeded31 => seeds::seed(alloc, count),
         }
     }
 }
