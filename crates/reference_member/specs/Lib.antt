@@ -1,0 +1,6 @@
+pub mod Steps
+pub mod Members
+pub mod Refusals
+pub mod Messages
+pub mod Accepted
+pub mod Told

@@ -1,0 +1,7 @@
+//! The reference member: what a member is after its steps, which steps it accepts, what it refuses and why, and what
+//! each step makes. Definitions, and laws on them; no code of a member stands here.
+#![tactic(auto)]
+
+mod refusal;
+
+pub use refusal::Refusal;
