@@ -1,0 +1,4 @@
+pub mod OneStep
+pub mod Runs
+pub mod Deciding
+pub mod Histories

@@ -2,7 +2,7 @@
 -- records".
 use Rattle.std.specs.Prelude.{◌≡◌, ℕ, ◌≤◌, List, [], ◌∷◌, ◌++◌, length}
 use Rattle.kem_trait.specs.declared.kem.Kem.{Ghosts}
-use Rattle.group_fields.specs.Cards.{HasSpelling, spelling}
+use Rattle.group_fields.specs.Cards.{Spells, spelling}
 use Rattle.group_fields.specs.declared.card.Card.{Card}
 use Rattle.group_model.specs.Sets.{Bytes, Id, In}
 use Rattle.member_identity.specs.Identity.{HasCards}
@@ -44,12 +44,16 @@ record_with set random (Take packet) = 7 ∷ (random ++ packet)
 abbrev pub record_of : (set : ℕ) → Step → Bytes
 record_of set step = record_with set step.random step.input
 
+-- the card is one that bytes spell
+abbrev pub HasBytes : Card → Type 0
+HasBytes card = Spells card (spelling card)
+
 module _ {K P : Type 0} (kem : Ghosts K P) where
   -- the input fits into a record
   abbrev pub FitsRecord : Input → Type 0
   FitsRecord (Init inviter height) = (length inviter ≡ 32) × HasCards kem height
-  FitsRecord (Create cards) = ((card : Card) → In card cards → HasSpelling card) × (length cards ≤ 31)
-  FitsRecord (Add card) = HasSpelling card
+  FitsRecord (Create cards) = ((card : Card) → In card cards → HasBytes card) × (length cards ≤ 31)
+  FitsRecord (Add card) = HasBytes card
   FitsRecord (Remove target) = length target ≡ 32
   FitsRecord Update = Unit {0}
   FitsRecord (Send text) = Unit {0}

@@ -2,6 +2,8 @@
 //! each step makes. Definitions, and laws on them; no code of a member stands here.
 #![tactic(auto)]
 
+mod laws;
 mod refusal;
 
+pub use laws::{histories_are_those_of_logs, records_are_of_one_step};
 pub use refusal::Refusal;

@@ -1,0 +1,24 @@
+//! Laws of the reference member. Each function does nothing; its contract is the law.
+
+ghost use Rattle.std.specs.Prelude.{◌≡◌, List, Some};
+ghost use Rattle.group_model.specs.Sets.{Id};
+ghost use Rattle.group_model.specs.Messages.{History};
+ghost use Rattle.group_model.specs.Logs.{hist};
+ghost use Rattle.reference_member.specs.Members.{Member, known};
+ghost use Rattle.reference_member.specs.Messages.{MadeMessage};
+ghost use Rattle.reference_member.specs.Steps.{HasRecord, Step, record_of};
+ghost use Rattle.reference_member.specs.Accepted.{IsRunOf};
+
+use kem_trait::Kem;
+
+/// Bytes are the record of one step at most.
+pub fn records_are_of_one_step<K: Kem>()
+    ensures { (a b : Step) → HasRecord ⟦<K as Kem>⟧ a → HasRecord ⟦<K as Kem>⟧ b
+        → record_of K.SET a ≡ record_of K.SET b → a ≡ b }
+{}
+
+/// The history of a member after its steps is that of its log.
+pub fn histories_are_those_of_logs<K: Kem>()
+    ensures { (rule : History → List Id) (steps : List Step) (M : Member) (made : List MadeMessage)
+        → IsRunOf ⟦<K as Kem>⟧ rule steps (Some M) made → hist M.log ≡ known M }
+{}
