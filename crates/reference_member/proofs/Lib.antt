@@ -2,3 +2,15 @@ pub mod OneStep
 pub mod Runs
 pub mod Deciding
 pub mod Histories
+pub mod OwnerForms
+pub mod RowsNamed
+pub mod Makes
+pub mod States
+pub mod Commands
+pub mod Packets
+pub mod Answering
+pub mod Entered
+pub mod Taken
+pub mod Welcomed
+pub mod Joined
+pub mod Lawful

@@ -1,12 +1,16 @@
 //! Laws of the reference member. Each function does nothing; its contract is the law.
 
-ghost use Rattle.std.specs.Prelude.{◌≡◌, List, Some};
+ghost use Rattle.std.specs.Prelude.{◌≡◌, ◌⊎◌, List, None, Some};
 ghost use Rattle.group_model.specs.Sets.{Id};
 ghost use Rattle.group_model.specs.Messages.{History};
 ghost use Rattle.group_model.specs.Logs.{hist};
-ghost use Rattle.reference_member.specs.Members.{Member, known};
+ghost use Rattle.group_model.specs.Settings.{Owner};
+ghost use Rattle.group_model.specs.LawfulLogs.{IsLawfulLog};
+ghost use Rattle.group_model.specs.Conduct.{AnswersAtOnce, waiting};
+ghost use Rattle.reference_member.specs.Members.{IsOwner, Member, known};
 ghost use Rattle.reference_member.specs.Messages.{MadeMessage};
 ghost use Rattle.reference_member.specs.Steps.{HasRecord, Step, record_of};
+ghost use Rattle.reference_member.specs.Refusals.{IsOut};
 ghost use Rattle.reference_member.specs.Accepted.{IsRunOf};
 
 use kem_trait::Kem;
@@ -21,4 +25,16 @@ pub fn records_are_of_one_step<K: Kem>()
 pub fn histories_are_those_of_logs<K: Kem>()
     ensures { (rule : History → List Id) (steps : List Step) (M : Member) (made : List MadeMessage)
         → IsRunOf ⟦<K as Kem>⟧ rule steps (Some M) made → hist M.log ≡ known M }
+{}
+
+/// The log of a member after its steps is lawful, whatever packets others made, and the member answers at once: an
+/// operation that it took is answered by the next entry, unless the operation removed the member.
+pub fn logs_are_lawful<K: Kem>()
+    ensures lawful { (rule : History → List Id) (steps : List Step) (M : Member) (made : List MadeMessage) (O : Owner)
+        → IsRunOf ⟦<K as Kem>⟧ rule steps (Some M) made → IsOwner ⟦<K as Kem>⟧ rule M O → IsLawfulLog O M.log }
+    ensures at_once { (rule : History → List Id) (steps : List Step) (M : Member) (made : List MadeMessage) (O : Owner)
+        → IsRunOf ⟦<K as Kem>⟧ rule steps (Some M) made → IsOwner ⟦<K as Kem>⟧ rule M O → AnswersAtOnce M.log }
+    ensures settled { (rule : History → List Id) (steps : List Step) (M : Member) (made : List MadeMessage) (O : Owner)
+        → IsRunOf ⟦<K as Kem>⟧ rule steps (Some M) made → IsOwner ⟦<K as Kem>⟧ rule M O
+        → (waiting M.log ≡ None) ⊎ IsOut ⟦<K as Kem>⟧ rule M }
 {}

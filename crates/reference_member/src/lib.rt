@@ -5,5 +5,5 @@
 mod laws;
 mod refusal;
 
-pub use laws::{histories_are_those_of_logs, records_are_of_one_step};
+pub use laws::{histories_are_those_of_logs, logs_are_lawful, records_are_of_one_step};
 pub use refusal::Refusal;
