@@ -9,7 +9,7 @@ use Rattle.group_fields.specs.declared.header.Target.{Target}
 use Rattle.group_fields.specs.declared.header.Target.TheVariants as targets
 use Rattle.group_fields.specs.declared.ids.Digest.{Digest}
 use Rattle.group_model.specs.Sets.{Bytes, Id, In, here, there}
-use Rattle.group_model.specs.Messages.{Kind, Create, Update, Remove, Add, Ack, AddAck, Text, Message, History, AreHeads}
+use Rattle.group_model.specs.Messages.{Kind, Create, Update, Remove, Add, Ack, AddAck, Text, Message, History, IsHistory, AreHeads}
 use Rattle.group_model.specs.Membership.{IsMembershipRule, named_by}
 use Rattle.group_model.specs.Validity.{Answers, IsInvited, MayFollow, MeetsKind, Opens, count_of}
 use Rattle.group_model.specs.Packets.{Given}
@@ -54,6 +54,16 @@ follows-settled (Some i) M t kem made e f = absurd cc
 pub next-kind : (made : MadeMessage) (kind : HeaderKind) (target : Target) → made.header.kind ≡ kind → made.header.target ≡ target
     → kind_of made.header ≡ kind_by kind target
 next-kind made kind target e d = rw (e, d) refl
+
+-- the next message makes a history with those before it
+pub next-history : {K P : Type 0} (kem : Ghosts K P) (rule : History → List Id) (M : Member) (t : Given) (cards : List Card)
+    (kind : HeaderKind) (target : Target) (made : MadeMessage) → IsNext kem rule M t cards kind target made → IsHistory (known M)
+    → IsHistory (message_of made.header ∷ known M)
+next-history kem rule M t cards kind target made next old = (
+  λ i k. let p = next.predecessors.only i k in record { by = p.0; there_is = p.1.there_is; has_id = p.2 },
+  next.new,
+  old,
+)
 
 module _ {K P : Type 0} (kem : Ghosts K P) (rule : History → List Id) (M : Member) where
   -- a member that is not out is one
@@ -218,3 +228,16 @@ module _ {K P : Type 0} (kem : Ghosts K P) (rule : History → List Id) (M : Mem
       (λ inviter public_key is_rule encapsulates says c.
       commanded inviter public_key is_rule encapsulates base c t made input g by says)
       O own.primitives own.rule_is own.id own.card own.says conducts
+
+  pub command-history : (t : Given) (input : Input) (made : MadeMessage) → IsByCommand kem rule M t input made → IsHistory (known M)
+      → IsHistory (message_of made.header ∷ known M)
+  command-history t (inputs.Init v height) made by old = absurd by
+  command-history t (inputs.Create others) made by old =
+      next-history kem rule M t by.0 kinds.Create (targets.Members (map id_of by.0)) made by.2 old
+  command-history t (inputs.Add card) made by old =
+      next-history kem rule M t (card ∷ []) kinds.Add (targets.Member (member_id (card_id card))) made by old
+  command-history t (inputs.Remove target) made by old =
+      next-history kem rule M t [] kinds.Remove (targets.Member (member_id target)) made by old
+  command-history t inputs.Update made by old = next-history kem rule M t [] kinds.Update targets.Nothing made by old
+  command-history t (inputs.Send text) made by old = next-history kem rule M t [] kinds.Text targets.Nothing made by old
+  command-history t (inputs.Take packet) made by old = absurd by

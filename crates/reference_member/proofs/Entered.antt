@@ -21,6 +21,7 @@ use Rattle.reference_member.specs.Messages.{IsNext, MadeMessage, answer_kind}
 use Rattle.reference_member.specs.Refusals.{IsOut}
 use Rattle.reference_member.specs.Accepted.{part_opens, with_made}
 use Rattle.reference_member.proofs.Answering.{TakesSecret, WasSeen, answer-enters, answer-named, answer-target}
+use Rattle.reference_member.proofs.Commands.{next-history}
 use Rattle.reference_member.proofs.Deciding.{operation-or-not}
 use Rattle.reference_member.proofs.Makes.{owner}
 use Rattle.reference_member.proofs.OwnerForms.{Encapsulates, SaysOf, fewer-said, owner-form}
@@ -127,7 +128,10 @@ module _ {K P : Type 0} (kem : Ghosts K P) (rule : History → List Id) (M : Mem
         (answer-target m (answer_kind (own_id kem M) m.kind) (part_opens kem packet M)) answer
         → Sound kem rule (with_made kem t answer after)
     sound-answered t answer needs next = record {
-      base = base-made kem rule after t answer takings.base (answer-named kem rule after m older (part_opens kem packet M) t answer next);
+      base = base-made kem rule after t answer takings.base
+          (next-history kem rule after t [] (answer_kind (own_id kem M) m.kind)
+          (answer-target m (answer_kind (own_id kem M) m.kind) (part_opens kem packet M)) answer next takings.base.history)
+          (answer-named kem rule after m older (part_opens kem packet M) t answer next);
       conducts = λ O is.
           let o = owns-made kem rule after t answer O is in
           let own = owner-made kem rule after t answer O is in

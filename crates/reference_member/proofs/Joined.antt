@@ -100,12 +100,20 @@ module _ {K P : Type 0} (kem : Ghosts K P) (rule : History → List Id) (M : Mem
         names = subst (λ (z : Row). Names (kind_of z.header) x) (sym r.2) (In-Names (kind_of r.0) x j);
       }))))
 
+  history : IsHistory (m ∷ older)
+  history = (
+    λ i k. let q = holds.rows.end.heads.only i k in record { by = q.0; there_is = q.1.there_is; has_id = q.2 },
+    holds.rows.end.fresh,
+    (ready-readable (joining kem rule M) packet welcome (own_id kem M) adds handed first).history,
+  )
+
   base-now : Base kem rule now
   base-now = record {
     agrees = ap (λ h. m ∷ h) rows-are ∙ sym known-now;
     fresh = λ e. absurd (no-rows (rows_of welcome) (row_of_packet kem packet) e);
     named = named-more (rows_of welcome) (row_of_packet kem packet) rows-named (packet-named kem packet bytes is_read);
     secret = base.secret;
+    history = subst IsHistory (sym known-now) history;
   }
 
   module _ (inviter : Id → Option Id) (public_key : Id → Bytes) (is_rule : IsMembershipRule rule)
@@ -139,17 +147,12 @@ module _ {K P : Type 0} (kem : Ghosts K P) (rule : History → List Id) (M : Mem
     joins =
         let heads : AreHeads older m.predecessors = holds.rows.end.heads in
         let over = add-follows (judging_over (joining kem rule M) (rows_of welcome)) packet holds.rows.others in
-        let readable = ready-readable (joining kem rule M) packet welcome (own_id kem M) adds handed first in
         record {
           fresh = base.fresh empty;
           other = invitation.other;
           adds = adds;
           heads = subst (λ h. AreHeads h m.predecessors) (sym rows-are) heads;
-          history = subst (λ h. IsHistory (m ∷ h)) (sym rows-are) (
-            λ i k. let q = heads.only i k in record { by = q.0; there_is = q.1.there_is; has_id = q.2 },
-            holds.rows.end.fresh,
-            readable.history,
-          );
+          history = subst (λ h. IsHistory (m ∷ h)) (sym rows-are) history;
           all_valid = subst (AllValid rule inviter) (sym rows-are)
               (all_valid-moved rule (inviter_by kem.is_public welcome.cards) inviter older (λ y n. sym (said-rows y n)) holds.rows.valid);
           valid = subst (λ h. MayFollow rule inviter h m) (sym rows-are)

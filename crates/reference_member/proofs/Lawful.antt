@@ -2,7 +2,7 @@
 use Rattle.std.proofs.Common.{◌≡◌, ◌≢◌, ◌⊎◌, List, [], ◌∷◌, ◌++◌, Option, Some, None, refl, sym, ◌∙◌, ap, subst, inl, inr}
 use Rattle.kem_trait.specs.declared.kem.Kem.{Ghosts}
 use Rattle.group_model.specs.Sets.{Bytes, Id}
-use Rattle.group_model.specs.Messages.{Add, History}
+use Rattle.group_model.specs.Messages.{Add, History, IsHistory}
 use Rattle.group_model.specs.Membership.{Names}
 use Rattle.group_model.specs.Validity.{NeedsAnswer}
 use Rattle.group_model.specs.Packets.{Given}
@@ -26,7 +26,7 @@ use Rattle.reference_member.specs.Steps as inputs
 use Rattle.reference_member.specs.Steps.{Input, Step}
 use Rattle.reference_member.specs.Accepted.{Accepts, Begins, BeginsBy, Commands, IsRunOf, Moves, Takes, given_by, known_before, part_opens, row_of_packet, rows_before, with_made, with_taken, with_taken_over}
 use Rattle.reference_member.proofs.Answering.{answer-target}
-use Rattle.reference_member.proofs.Commands.{command-enters, command-names}
+use Rattle.reference_member.proofs.Commands.{command-enters, command-history, command-names}
 use Rattle.reference_member.proofs.Deciding.{answer-or-not}
 use Rattle.reference_member.proofs.Entered.{Takings, sound-answered, sound-taken, with_entry}
 use Rattle.reference_member.proofs.Joined.{join-takings}
@@ -46,6 +46,7 @@ module _ {K P : Type 0} (kem : Ghosts K P) (rule : History → List Id) where
       fresh = λ e. refl;
       named = λ row i. absurd (In-nothing i);
       secret = b.usable;
+      history = subst IsHistory (sym history-none) tt;
     };
     conducts = λ O is. record { lawful = tt; at_once = tt; settled = inl refl };
   })
@@ -55,7 +56,8 @@ module _ {K P : Type 0} (kem : Ghosts K P) (rule : History → List Id) where
   commanded : (t : Given) (input : Input) (M : Member) (made : Option MadeMessage) (after : Member)
       → GivesNone (on_input kem rule M input) → Commands kem rule t input M made after → Sound kem rule M → Sound kem rule after
   commanded t input M made after g c sound = subst (Sound kem rule) (sym c.after_is) (record {
-    base = base-made kem rule M t c.message sound.base (command-names kem rule M t input c.message c.by_command);
+    base = base-made kem rule M t c.message sound.base
+        (command-history kem rule M t input c.message c.by_command sound.base.history) (command-names kem rule M t input c.message c.by_command);
     conducts = λ O is.
         let before = sound.conducts O (owner-made kem rule M t c.message O is) in
         conducts-made kem rule M t c.message O before.lawful before.at_once
@@ -66,13 +68,13 @@ module _ {K P : Type 0} (kem : Ghosts K P) (rule : History → List Id) where
 
   module _ (M : Member) (packet : ReadPacket) where
     -- how a packet is taken
-    record Outcome : Type 0 where
-      rows : List Row
-      entry : LogEntry
-      older : History
-      is : with_taken kem packet M ≡ with_entry rows entry M
-      before : known_before kem packet M ≡ older
-      takings : Takings kem rule M packet rows entry older
+    pub record Outcome : Type 0 where
+      pub rows : List Row
+      pub entry : LogEntry
+      pub older : History
+      pub is : with_taken kem packet M ≡ with_entry rows entry M
+      pub before : known_before kem packet M ≡ older
+      pub takings : Takings kem rule M packet rows entry older
 
     abbrev rows-took : List Row
     rows-took = M.rows ++ row_of_packet kem packet ∷ []
@@ -121,7 +123,7 @@ module _ {K P : Type 0} (kem : Ghosts K P) (rule : History → List Id) where
         ∙ ap (λ (z : Option WelcomeRows). history_of (rows_before kem [] z)) handed
 
     module _ (bytes : Bytes) (is_read : IsPacket packet bytes) (sound : Sound kem rule M) where
-      outcome : (rows : List Row) → M.rows ≡ rows → IsFirst (verdicts_over kem rule M rows packet) answers.Ready → Outcome
+      pub outcome : (rows : List Row) → M.rows ≡ rows → IsFirst (verdicts_over kem rule M rows packet) answers.Ready → Outcome
       outcome (row ∷ rows) is first =
           let joined : M.rows ≢ [] = λ e. (let none : row ∷ rows ≡ [] = sym is ∙ e in absurd cc) in
           record {
@@ -164,7 +166,7 @@ module _ {K P : Type 0} (kem : Ghosts K P) (rule : History → List Id) where
           ]
 
   -- the packet that is ready is the one that is read
-  ready-first : (M : Member) (bytes : Bytes) (packet : ReadPacket) → IsPacket packet bytes → IsVerdict kem rule M bytes answers.Ready
+  pub ready-first : (M : Member) (bytes : Bytes) (packet : ReadPacket) → IsPacket packet bytes → IsVerdict kem rule M bytes answers.Ready
       → IsFirst (verdicts_over kem rule M M.rows packet) answers.Ready
   ready-first M bytes packet is_read (inl n) = absurd (let e : answers.Ready ≡ answers.Malformed n.0 = n.2 in cc)
   ready-first M bytes packet is_read (inr v) =

@@ -14,3 +14,6 @@ pub mod Taken
 pub mod Welcomed
 pub mod Joined
 pub mod Lawful
+pub mod OwnersThere
+pub mod OneNext
+pub mod OneRun

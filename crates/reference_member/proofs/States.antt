@@ -3,7 +3,7 @@ use Rattle.std.proofs.Common.{◌≡◌, ◌⊎◌, List, [], ◌∷◌, ◌++�
 use Rattle.kem_trait.specs.declared.kem.Kem.{Ghosts}
 use Rattle.group_fields.specs.declared.card.Card.{Card}
 use Rattle.group_model.specs.Sets.{Id, In}
-use Rattle.group_model.specs.Messages.{History}
+use Rattle.group_model.specs.Messages.{History, IsHistory}
 use Rattle.group_model.specs.Packets.{Given}
 use Rattle.group_model.specs.Settings.{Owner}
 use Rattle.group_model.specs.Logs.{Made, hist}
@@ -11,7 +11,9 @@ use Rattle.group_model.specs.LawfulLogs.{IsLawfulLog, MakesPacket}
 use Rattle.group_model.specs.Conduct.{AnswersAtOnce, Follows, waiting}
 use Rattle.group_model.proofs.ListFacts.{In-left}
 use Rattle.group_keys.specs.Primitives.{primitives_of}
+use Rattle.group_messages.specs.Messages.{message_of}
 use Rattle.causal_history.specs.Rows.{cards_of}
+use Rattle.causal_history.proofs.RowFacts.{history-push}
 use Rattle.member_identity.specs.Identity.{secret_from}
 use Rattle.reference_member.specs.Members.{IsOwner, Member, known, own_id, own_pair}
 use Rattle.reference_member.specs.Messages.{MadeMessage, as_packet}
@@ -55,6 +57,7 @@ module _ {K P : Type 0} (kem : Ghosts K P) (rule : History → List Id) (M : Mem
     pub fresh : M.rows ≡ [] → M.log ≡ []
     pub named : AreNamed M.rows
     pub secret : secret_from kem M.random ≡ Some M.secret
+    pub history : IsHistory (known M)
 
   pub record Conducts (O : Owner) : Type 0 where
     pub lawful : IsLawfulLog O M.log
@@ -76,14 +79,16 @@ no-rows (y ∷ xs) x e = cc
 
 module _ {K P : Type 0} (kem : Ghosts K P) (rule : History → List Id) (M : Member) (t : Given) (made : MadeMessage) where
   -- the member after a message of its own
-  pub base-made : Base kem rule M → IsNamed (record { header = made.header; cards = made.carried.cards })
+  pub base-made : Base kem rule M → IsHistory (message_of made.header ∷ known M)
+      → IsNamed (record { header = made.header; cards = made.carried.cards })
       → Base kem rule (with_made kem t made M)
   unfolding with_made
-  base-made base names = record {
+  base-made base history names = record {
     agrees = made-history kem t made M base.agrees;
     fresh = λ e. absurd (no-rows M.rows _ e);
     named = named-more M.rows (record { header = made.header; cards = made.carried.cards }) base.named names;
     secret = base.secret;
+    history = subst IsHistory (sym (history-push M.rows (record { header = made.header; cards = made.carried.cards }))) history;
   }
 
   pub owns-made : (O : Owner) → IsOwner kem rule (with_made kem t made M) O

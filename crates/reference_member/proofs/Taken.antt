@@ -109,12 +109,13 @@ module _ {K P : Type 0} (kem : Ghosts K P) (rule : History → List Id) (M : Mem
   known-now : known now ≡ m ∷ known M
   known-now = history-push M.rows (row_of_packet kem packet)
 
-  base-now : Base kem rule now
-  base-now = record {
+  base-now : IsHistory (m ∷ known M) → Base kem rule now
+  base-now history = record {
     agrees = ap (λ h. m ∷ h) base.agrees ∙ sym known-now;
     fresh = λ e. absurd (no-rows M.rows (row_of_packet kem packet) e);
     named = named-more M.rows (row_of_packet kem packet) base.named (packet-named kem packet bytes is_read);
     secret = base.secret;
+    history = subst IsHistory (sym known-now) history;
   }
 
   cards-now : cards_of rows-now ≡ cards_of M.rows ++ packet.cards
@@ -206,7 +207,7 @@ module _ {K P : Type 0} (kem : Ghosts K P) (rule : History → List Id) (M : Mem
 
   pub ready-takings : IsFirst (verdicts (judging kem rule M) packet) answers.Ready → Took-takings
   ready-takings first = record {
-    base = base-now;
+    base = base-now (ready-may_be_taken (judging kem rule M) packet base.history first).history;
     is = known-now;
     more = more-now;
     entered = λ inviter public_key is_rule encapsulates says conducts.
@@ -217,7 +218,11 @@ module _ {K P : Type 0} (kem : Ghosts K P) (rule : History → List Id) (M : Mem
       → Names m.kind (own_id kem M) → Opens (inviter_by kem.is_public packet.cards) m
       → SendsParts rule [] m (receivers packet.parts) → Took-takings
   create-takings members create empty other names opens sends = record {
-    base = base-now;
+    base = base-now (subst (λ h. IsHistory (m ∷ h)) (sym (ap hist (base.fresh empty)) ∙ base.agrees) (
+      λ i k. absurd (In-nothing (subst (λ z. In i z) opens.first k)),
+      λ s. In-nothing s.there_is,
+      tt,
+    ));
     is = known-now;
     more = more-now;
     entered = λ inviter public_key is_rule encapsulates says conducts.

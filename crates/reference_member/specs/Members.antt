@@ -35,6 +35,10 @@ known M = history_of M.rows
 abbrev pub tree : Member → LmsTree
 tree M = signing_tree M.height M.random
 
+-- of each id there is one card at most
+abbrev pub HaveOneEach : List Card → Type 0
+HaveOneEach cards = (a b : Card) → In a cards → In b cards → card_id a ≡ card_id b → a ≡ b
+
 -- the public key in the card of an id, where cards have one of it
 abbrev pub public_key_by : List Card → Id → Bytes
 public_key_by cards y = option_map_or (λ (card : Card). card.kem_public) (card_among cards y) []

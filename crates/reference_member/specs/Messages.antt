@@ -25,7 +25,7 @@ use Rattle.group_model.specs.Knowledge.{chain_known, text_sealed}
 use Rattle.group_model.specs.Parts.{parts_of, part_sent}
 use Rattle.group_keys.specs.Primitives.{primitives_of}
 use Rattle.group_messages.specs.Messages.{ids_of, kind_of, message_of}
-use Rattle.group_packets.specs.Packets.{addressed_of, packet_of}
+use Rattle.group_packets.specs.Packets.{addressed_of, packet_of, part_written}
 use Rattle.causal_history.specs.Rows.{cards_of}
 use Rattle.wire_codec.specs.Packets as packets
 use Rattle.wire_codec.specs.Packets.{Body, Packet as WrittenPacket, Sealed, WelcomeRows, id_of, joined}
@@ -97,6 +97,8 @@ module _ {K P : Type 0} (kem : Ghosts K P) (rule : History → List Id) (M : Mem
     pub parts : parts_of (part_sent (primitives_of kem) (own_pair kem M) (own_id kem M)
         (public_key_by (cards_of M.rows ++ cards)) M.log t (kind_of made.header)) addressees
         ≡ Some (map (addressed_of kem) made.carried.parts)
+    -- spelled by its bytes
+    pub written : map (part_written kem) (map (addressed_of kem) made.carried.parts) ≡ made.carried.parts
     pub handed_on : HandsOn (kind_of made.header) made.carried.history
     pub text : CarriesText (kind_of made.header) made.carried.text
     -- no message before has its id

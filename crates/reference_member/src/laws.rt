@@ -1,13 +1,15 @@
 //! Laws of the reference member. Each function does nothing; its contract is the law.
 
-ghost use Rattle.std.specs.Prelude.{◌≡◌, ◌⊎◌, List, None, Some};
+ghost use Rattle.std.specs.Prelude.{◌≡◌, ◌⊎◌, List, None, Option, Some};
 ghost use Rattle.group_model.specs.Sets.{Id};
 ghost use Rattle.group_model.specs.Messages.{History};
+ghost use Rattle.group_model.specs.Membership.{IsMembershipRule};
 ghost use Rattle.group_model.specs.Logs.{hist};
 ghost use Rattle.group_model.specs.Settings.{Owner};
 ghost use Rattle.group_model.specs.LawfulLogs.{IsLawfulLog};
 ghost use Rattle.group_model.specs.Conduct.{AnswersAtOnce, waiting};
-ghost use Rattle.reference_member.specs.Members.{IsOwner, Member, known};
+ghost use Rattle.causal_history.specs.Rows.{cards_of};
+ghost use Rattle.reference_member.specs.Members.{HaveOneEach, IsOwner, Member, known};
 ghost use Rattle.reference_member.specs.Messages.{MadeMessage};
 ghost use Rattle.reference_member.specs.Steps.{HasRecord, Step, record_of};
 ghost use Rattle.reference_member.specs.Refusals.{IsOut};
@@ -37,4 +39,20 @@ pub fn logs_are_lawful<K: Kem>()
     ensures settled { (rule : History → List Id) (steps : List Step) (M : Member) (made : List MadeMessage) (O : Owner)
         → IsRunOf ⟦<K as Kem>⟧ rule steps (Some M) made → IsOwner ⟦<K as Kem>⟧ rule M O
         → (waiting M.log ≡ None) ⊎ IsOut ⟦<K as Kem>⟧ rule M }
+{}
+
+/// The log of a member has an owner where of each id there is one card at most in its history.
+pub fn owners_are_there<K: Kem>()
+    ensures { (rule : History → List Id) (M : Member) → IsMembershipRule rule → HaveOneEach (cards_of M.rows)
+        → (O : Owner) × IsOwner ⟦<K as Kem>⟧ rule M O }
+{}
+
+/// Steps have one member and one list of messages.
+pub fn runs_are_one<K: Kem>()
+    ensures member { (rule : History → List Id) → IsMembershipRule rule → (steps : List Step) (M N : Option Member)
+        (made others : List MadeMessage) → IsRunOf ⟦<K as Kem>⟧ rule steps M made
+        → IsRunOf ⟦<K as Kem>⟧ rule steps N others → M ≡ N }
+    ensures messages { (rule : History → List Id) → IsMembershipRule rule → (steps : List Step) (M N : Option Member)
+        (made others : List MadeMessage) → IsRunOf ⟦<K as Kem>⟧ rule steps M made
+        → IsRunOf ⟦<K as Kem>⟧ rule steps N others → made ≡ others }
 {}
