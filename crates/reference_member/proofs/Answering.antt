@@ -1,29 +1,25 @@
 -- The answer to what was taken may be the next entry of the member's log.
-use Rattle.std.proofs.Common.{◌≡◌, ◌≢◌, ◌⊎◌, Bool, true, false, cond, List, [], ◌∷◌, ◌++◌, map, Option, Some, None, option_map, refl, sym, ◌∙◌, ap, subst, inl, inr}
-use Rattle.std.specs.Prelude.{is_some}
+use Rattle.std.proofs.Common.{◌≡◌, ◌≢◌, ◌⊎◌, Bool, true, List, [], ◌∷◌, ◌++◌, map, Option, Some, None, refl, sym, ◌∙◌, ap, subst, inl, inr}
 use Rattle.std.specs.Str.{bytes_eq}
 use Rattle.std.proofs.lemmas.Slice.Eq.{bytes_eq-Decides}
 use Rattle.kem_trait.specs.declared.kem.Kem.{Ghosts}
 use Rattle.group_fields.specs.Cards.{card_id}
-use Rattle.group_fields.specs.declared.card.Card.{Card}
 use Rattle.group_fields.specs.declared.header.Kind.{Kind as HeaderKind}
-use Rattle.group_fields.specs.declared.header.Kind.TheVariants as kinds
 use Rattle.group_fields.specs.declared.header.Target.{Target}
 use Rattle.group_fields.specs.declared.header.Target.TheVariants as targets
-use Rattle.group_model.specs.Sets.{Bytes, Id, In, here, there}
+use Rattle.group_model.specs.Sets.{Bytes, Id, In}
 use Rattle.group_model.specs.Messages.{Kind, Create, Update, Remove, Add, Ack, AddAck, Text, Message, History, Stands}
 use Rattle.group_model.specs.Membership.{InView, IsMembershipRule, IsSeeded, named_by}
 use Rattle.group_model.specs.Validity.{Answers as AnswersTo, IsOperation, MeetsKind, NeedsAnswer}
 use Rattle.group_model.specs.Packets.{Given}
-use Rattle.group_model.specs.Settings.{Owner}
-use Rattle.group_model.specs.Logs.{LogEntry, Made, hist}
+use Rattle.group_model.specs.Logs.{Made, hist}
 use Rattle.group_model.specs.LawfulLogs.{IsLawfulLog}
 use Rattle.group_model.specs.Knowledge.{answer_known}
 use Rattle.group_model.specs.Conduct.{AnswersAtOnce, Follows, waiting}
 use Rattle.group_model.proofs.ListFacts.{In-cases, no_is, test, yes_is}
 use Rattle.group_keys.specs.Primitives.{primitives_of}
 use Rattle.group_messages.specs.Messages.{kind_by, kind_of}
-use Rattle.causal_history.specs.Rows.{Row, cards_of}
+use Rattle.causal_history.specs.Rows.{cards_of}
 use Rattle.reference_member.specs.Members.{Member, known, own_id, own_pair}
 use Rattle.reference_member.specs.Messages.{IsNext, MadeMessage, answer_kind, answer_took, as_packet}
 use Rattle.reference_member.proofs.Commands.{next-kind}

@@ -1,5 +1,5 @@
 -- What a command makes may be the next entry of the member's log.
-use Rattle.std.proofs.Common.{◌≡◌, ◌≢◌, ◌⊎◌, ◌+◌, ℕ, zero, suc, Bool, true, false, cond, nat_eq, List, [], ◌∷◌, ◌++◌, map, Option, Some, None, IsSome, slice_get, refl, sym, ◌∙◌, ap, subst, inl, inr}
+use Rattle.std.proofs.Common.{◌≡◌, ◌≢◌, ◌+◌, ℕ, zero, suc, true, false, nat_eq, List, [], ◌∷◌, ◌++◌, map, Option, Some, None, IsSome, slice_get, refl, sym, ◌∙◌, ap, subst, inl, inr}
 use Rattle.kem_trait.specs.declared.kem.Kem.{Ghosts}
 use Rattle.group_fields.specs.Cards.{card_id}
 use Rattle.group_fields.specs.declared.card.Card.{Card}
@@ -9,9 +9,9 @@ use Rattle.group_fields.specs.declared.header.Target.{Target}
 use Rattle.group_fields.specs.declared.header.Target.TheVariants as targets
 use Rattle.group_fields.specs.declared.ids.Digest.{Digest}
 use Rattle.group_model.specs.Sets.{Bytes, Id, In, here, there}
-use Rattle.group_model.specs.Messages.{Kind, Create, Update, Remove, Add, Ack, AddAck, Text, Message, History, IsHistory, AreHeads}
+use Rattle.group_model.specs.Messages.{History, IsHistory}
 use Rattle.group_model.specs.Membership.{IsMembershipRule, named_by}
-use Rattle.group_model.specs.Validity.{Answers, IsInvited, MayFollow, MeetsKind, Opens, count_of}
+use Rattle.group_model.specs.Validity.{Answers, IsInvited, MayFollow, MeetsKind, count_of}
 use Rattle.group_model.specs.Packets.{Given}
 use Rattle.group_model.specs.Settings.{Owner}
 use Rattle.group_model.specs.Logs.{Made, hist}
@@ -27,7 +27,7 @@ use Rattle.member_view.specs.Causes.{GivesNone}
 use Rattle.wire_codec.specs.Packets.{id_of}
 use Rattle.reference_member.specs.Members.{IsIn, Member, known, own_card, own_id, own_pair}
 use Rattle.reference_member.specs.Messages.{AreFounders, IsByCommand, IsNext, MadeMessage, as_packet}
-use Rattle.reference_member.specs.Refusals.{HasFault, IsOthers, IsOut, NoneIs, member_id, on_input}
+use Rattle.reference_member.specs.Refusals.{HasFault, IsOthers, IsOut, member_id, on_input}
 use Rattle.reference_member.specs.Steps as inputs
 use Rattle.reference_member.specs.Steps.{Input}
 use Rattle.reference_member.proofs.Deciding.{in-or-not, same-or-not}

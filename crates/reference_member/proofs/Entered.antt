@@ -8,9 +8,9 @@ use Rattle.group_model.specs.Membership.{IsMembershipRule}
 use Rattle.group_model.specs.Validity.{IsOperation, NeedsAnswer}
 use Rattle.group_model.specs.Packets.{Given}
 use Rattle.group_model.specs.Settings.{Owner}
-use Rattle.group_model.specs.Logs.{LogEntry, Log, hist}
+use Rattle.group_model.specs.Logs.{LogEntry}
 use Rattle.group_model.specs.LawfulLogs.{IsLawfulLog, MayEnter}
-use Rattle.group_model.specs.Conduct.{AnswersAtOnce, Follows, asks, waiting}
+use Rattle.group_model.specs.Conduct.{Follows, asks, waiting}
 use Rattle.group_keys.specs.Primitives.{primitives_of}
 use Rattle.group_messages.specs.Messages.{message_of}
 use Rattle.causal_history.specs.Rows.{Row, cards_of, history_of}
@@ -24,8 +24,8 @@ use Rattle.reference_member.proofs.Answering.{TakesSecret, WasSeen, answer-enter
 use Rattle.reference_member.proofs.Commands.{next-history}
 use Rattle.reference_member.proofs.Deciding.{operation-or-not}
 use Rattle.reference_member.proofs.Makes.{owner}
-use Rattle.reference_member.proofs.OwnerForms.{Encapsulates, SaysOf, fewer-said, owner-form}
-use Rattle.reference_member.proofs.States.{Base, Conducts, Enters, Owns, Sound, base-made, conducts-made, owner-made, owner-of, owns, owns-made}
+use Rattle.reference_member.proofs.OwnerForms.{Encapsulates, SaysOf, owner-form}
+use Rattle.reference_member.proofs.States.{Base, Conducts, Enters, Sound, base-made, conducts-made, owner-made, owns, owns-made}
 
 -- the member with other rows and one entry more
 abbrev pub with_entry : List Row → LogEntry → Member → Member

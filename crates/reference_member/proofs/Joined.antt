@@ -1,18 +1,16 @@
 -- An add that is ready may be the first entry of the log of who joins by it.
-use Rattle.std.proofs.Common.{◌≡◌, ◌⊎◌, true, List, [], ◌∷◌, ◌++◌, map, Option, Some, None, refl, sym, ◌∙◌, ap, subst, inl, inr}
+use Rattle.std.proofs.Common.{◌≡◌, true, List, [], ◌∷◌, ◌++◌, Option, Some, None, refl, sym, ◌∙◌, ap, subst}
 use Rattle.std.specs.Prelude.{is_some}
 use Rattle.kem_trait.specs.declared.kem.Kem.{Ghosts}
-use Rattle.group_fields.specs.Cards.{card_id}
-use Rattle.group_fields.specs.declared.card.Card.{Card}
-use Rattle.group_model.specs.Sets.{Bytes, Id, In, here}
-use Rattle.group_model.specs.Messages.{Add, AreHeads, History, IsHistory, Message, Stands}
+use Rattle.group_model.specs.Sets.{Bytes, Id, In}
+use Rattle.group_model.specs.Messages.{Add, AreHeads, History, IsHistory, Message}
 use Rattle.group_model.specs.Membership.{IsMembershipRule, IsSeeded, Named, Names, named_by}
 use Rattle.group_model.specs.Validity.{AllValid, AreUnforked, IsUnforked, MayFollow}
 use Rattle.group_model.specs.Primitives.{KeyPair, Primitives}
 use Rattle.group_model.specs.KeyTerms.{welcome_word}
 use Rattle.group_model.specs.Packets.{Packet}
 use Rattle.group_model.specs.Settings.{Owner}
-use Rattle.group_model.specs.Logs.{Joined, Log, hist}
+use Rattle.group_model.specs.Logs.{Joined, Log}
 use Rattle.group_model.specs.LawfulLogs.{JoinsByPacket}
 use Rattle.group_model.specs.Knowledge.{answer_by, answer_known, handed_by, known as ratchet_known, or_else, payload, prior_of}
 use Rattle.group_model.specs.Conduct.{Follows, asks, waiting}
@@ -27,10 +25,10 @@ use Rattle.causal_history.specs.Rows.{Row, cards_of, history_of, row_message}
 use Rattle.causal_history.proofs.RowFacts.{history-push}
 use Rattle.member_view.specs.Causes.{IsFirst}
 use Rattle.wire_codec.specs.Packets.{IsPacket, Packet as ReadPacket, WelcomeRows}
-use Rattle.causal_cast.specs.Judging.{Judging, inviter_by}
+use Rattle.causal_cast.specs.Judging.{inviter_by}
 use Rattle.causal_cast.specs.declared.verdict.Verdict.TheVariants as answers
 use Rattle.welcome_history.specs.Joining.{IsInvitation, first_verdicts, judging as judging_over}
-use Rattle.welcome_history.specs.Welcomes.{cards_for, row_of, rows_of}
+use Rattle.welcome_history.specs.Welcomes.{row_of, rows_of}
 use Rattle.welcome_history.proofs.ReadyRows.{ready-readable}
 use Rattle.reference_member.specs.Members.{Member, joining, known, own_id, own_pair}
 use Rattle.reference_member.specs.Accepted.{row_of_packet}
@@ -40,7 +38,7 @@ use Rattle.reference_member.proofs.Makes.{owner}
 use Rattle.reference_member.proofs.OwnerForms.{Encapsulates, SaysOf, fewer-said, first-of, from-map, inviter-first, inviter-said}
 use Rattle.reference_member.proofs.Packets.{packet-named}
 use Rattle.reference_member.proofs.RowsNamed.{AreNamed, IsNamed, cards-more, cards-of-row, in-history, named-more, row-of as row-with}
-use Rattle.reference_member.proofs.States.{Base, Conducts, no-rows}
+use Rattle.reference_member.proofs.States.{Base, no-rows}
 use Rattle.reference_member.proofs.Taken.{some-of}
 use Rattle.reference_member.proofs.Welcomed.{WelcomeHolds, add-follows, all_valid-moved, ids-of-cards, in-cards_for, may_follow-moved}
 

@@ -12,7 +12,6 @@ use Rattle.group_messages.specs.Messages.{message_of}
 use Rattle.group_packets.specs.Packets.{packet_of}
 use Rattle.causal_history.specs.Rows.{Row, history_of}
 use Rattle.causal_history.proofs.RowFacts.{history-none}
-use Rattle.member_identity.specs.Identity.{secret_from}
 use Rattle.member_view.specs.Causes.{GivesNone, IsFirst}
 use Rattle.wire_codec.specs.Packets.{IsPacket, Packet as ReadPacket, WelcomeRows}
 use Rattle.wire_codec.proofs.Joins.{one_packet}
@@ -20,7 +19,7 @@ use Rattle.causal_cast.specs.declared.verdict.Verdict.TheVariants as answers
 use Rattle.welcome_history.specs.Joining.{on_history}
 use Rattle.welcome_history.specs.Welcomes.{rows_of}
 use Rattle.reference_member.specs.Members.{Member, joining, known, own_id}
-use Rattle.reference_member.specs.Messages.{IsByCommand, IsNext, MadeMessage, answer_kind}
+use Rattle.reference_member.specs.Messages.{IsNext, MadeMessage, answer_kind}
 use Rattle.reference_member.specs.Refusals.{IsVerdict, on_input, refusals_of, verdicts_over}
 use Rattle.reference_member.specs.Steps as inputs
 use Rattle.reference_member.specs.Steps.{Input, Step}
@@ -34,7 +33,7 @@ use Rattle.reference_member.proofs.Packets.{add-hands_on, create-alone}
 use Rattle.reference_member.proofs.Runs.{run-holds}
 use Rattle.reference_member.proofs.States.{Sound, base-made, conducts-made, owner-made, owns-made}
 use Rattle.reference_member.proofs.Taken.{create-takings, ready-takings}
-use Rattle.reference_member.proofs.Welcomed.{First, IsInvited, adding, creating, invited, welcome-holds}
+use Rattle.reference_member.proofs.Welcomed.{IsInvited, adding, creating, invited, welcome-holds}
 
 module _ {K P : Type 0} (kem : Ghosts K P) (rule : History → List Id) where
   -- ---- the first step

@@ -1,18 +1,17 @@
 -- The next message of a member is one that its log may have next.
-use Rattle.std.proofs.Common.{◌≡◌, ◌+◌, List, [], ◌∷◌, ◌++◌, map, reverse, Option, Some, None, true, option_map, refl, sym, ◌∙◌, ap, subst, inl, inr}
+use Rattle.std.proofs.Common.{◌≡◌, ◌+◌, List, [], ◌∷◌, ◌++◌, map, reverse, Option, Some, None, true, refl, sym, ◌∙◌, ap, subst, inl, inr}
 use Rattle.std.specs.Option.{option_and_then}
 use Rattle.kem_trait.specs.declared.kem.Kem.{Ghosts}
 use Rattle.group_fields.specs.Cards.{card_id}
 use Rattle.group_fields.specs.declared.card.Card.{Card}
-use Rattle.group_fields.specs.declared.header.Header.{Header}
 use Rattle.group_fields.specs.declared.header.Kind.{Kind as HeaderKind}
 use Rattle.group_fields.specs.declared.header.Target.{Target}
 use Rattle.group_model.specs.Sets.{Bytes, Id, In, here, there}
-use Rattle.group_model.specs.Messages.{Kind, Add, Ack, Text, Message, History, IsHistory, Stands, AreHeads}
+use Rattle.group_model.specs.Messages.{Add, Ack, Text, Message, History, IsHistory, Stands, AreHeads}
 use Rattle.group_model.specs.Membership.{AreAddressees, IsMembershipRule, Named, Names, named_by}
 use Rattle.group_model.specs.Validity.{MayFollow, MeetsKind, count_of}
 use Rattle.group_model.specs.Pairing.{Part}
-use Rattle.group_model.specs.Packets.{Addressed, Given}
+use Rattle.group_model.specs.Packets.{Given}
 use Rattle.group_model.specs.Settings.{Owner}
 use Rattle.group_model.specs.Logs.{Made, hist}
 use Rattle.group_model.specs.LawfulLogs.{IsLawfulLog, MakesPacket}
@@ -24,16 +23,15 @@ use Rattle.group_model.proofs.LogLaws.{log_kept}
 use Rattle.group_model.proofs.RemoveWins.{Names-In}
 use Rattle.group_model.proofs.Conduct.{made_is_valid}
 use Rattle.group_keys.specs.Primitives.{primitives_of}
-use Rattle.group_messages.specs.Messages.{ids_of, kind_of, message_of}
+use Rattle.group_messages.specs.Messages.{message_of}
 use Rattle.group_packets.specs.Packets as packet_words
 use Rattle.group_packets.specs.Packets.{addressed_of, sealed_of}
-use Rattle.causal_history.specs.Rows.{cards_of, history_of}
+use Rattle.causal_history.specs.Rows.{cards_of}
 use Rattle.causal_cast.proofs.Begun.{begun-with, follows}
-use Rattle.wire_codec.specs.Packets.{Sealed, WelcomeRows}
-use Rattle.reference_member.specs.Members.{Member, known, made_count, own_id, own_pair, public_key_by}
+use Rattle.reference_member.specs.Members.{Member, known, own_id, own_pair, public_key_by}
 use Rattle.reference_member.specs.Messages.{CarriesText, HandsOn, IsNext, MadeMessage, as_packet}
 use Rattle.reference_member.proofs.Histories.{history-headers}
-use Rattle.reference_member.proofs.OwnerForms.{Encapsulates, SaysOf, from-map, in-map, key-said, owner_with}
+use Rattle.reference_member.proofs.OwnerForms.{Encapsulates, SaysOf, key-said, owner_with}
 use Rattle.reference_member.proofs.RowsNamed.{AreNamed, addressee-named, named-card}
 
 -- parts by keys that are the same

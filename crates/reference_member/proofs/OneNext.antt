@@ -1,12 +1,12 @@
 -- The next message of a member is one.
-use Rattle.std.proofs.Common.{◌≡◌, ◌+◌, ℕ, true, false, List, [], ◌∷◌, ◌++◌, length, map, take, drop, Option, Some, None, refl, sym, ◌∙◌, ap, subst, inl, inr, arith, length-append}
+use Rattle.std.proofs.Common.{◌≡◌, ℕ, false, List, [], ◌∷◌, ◌++◌, length, map, take, drop, Option, Some, refl, sym, ◌∙◌, ap, subst, inl, inr, arith, length-append}
 use Rattle.std.specs.Str.{bytes_eq}
 use Rattle.std.proofs.lemmas.List.{take_at, drop_at}
 use Rattle.std.proofs.lemmas.Slice.Eq.{bytes_eq-Decides}
 use Rattle.kem_trait.specs.declared.kem.Kem.{Ghosts}
 use Rattle.sha2.specs.Sha256.{sha256}
 use Rattle.group_fields.specs.Cards.{card_id}
-use Rattle.group_fields.specs.Layouts.{Spells, bytes_of, counted}
+use Rattle.group_fields.specs.Layouts.{Spells, bytes_of}
 use Rattle.group_fields.specs.declared.card.Card.{Card}
 use Rattle.group_fields.specs.declared.header.Header.{Header}
 use Rattle.group_fields.specs.declared.header.Kind.{Kind as HeaderKind}
@@ -16,19 +16,19 @@ use Rattle.group_fields.specs.declared.ids.Digest.{Digest}
 use Rattle.group_fields.specs.declared.ids.GroupId.{GroupId}
 use Rattle.group_fields.specs.declared.ids.MemberId.{MemberId}
 use Rattle.group_fields.proofs.LayoutLaws.{one_spelling}
-use Rattle.group_model.specs.Sets.{Bytes, Id, In, here, there, IsAscending, IsDistinct}
+use Rattle.group_model.specs.Sets.{Bytes, Id, In, here, there, IsDistinct}
 use Rattle.group_model.specs.Messages.{Kind, Create, Update, Remove, Add, Ack, AddAck, Text, Message, History, IsHistory}
-use Rattle.group_model.specs.Membership.{AreAddressees, IsMembershipRule, ids_named}
+use Rattle.group_model.specs.Membership.{AreAddressees, IsMembershipRule}
 use Rattle.group_model.specs.Packets.{Given}
 use Rattle.group_model.specs.Parts.{part_sent, parts_of}
 use Rattle.group_model.proofs.Addressees.{addressees_move}
 use Rattle.group_model.proofs.Ascending.{addressees-same, ascending-same, heads-same}
-use Rattle.group_model.proofs.ListFacts.{In-cases, In-nothing, no_is, other_id, same_id-true, some_same, test, yes_is}
+use Rattle.group_model.proofs.ListFacts.{In-cases, other_id, same_id-true, some_same}
 use Rattle.group_keys.specs.Primitives.{primitives_of}
 use Rattle.group_messages.specs.Messages.{ids_of, kind_by, kind_of, message_of}
 use Rattle.group_messages.proofs.HeaderFacts.{ascending-distinct}
-use Rattle.group_packets.specs.Packets.{addressed_of, part_written}
-use Rattle.causal_history.specs.Rows.{Row, card_among, card_in, cards_of, history_of}
+use Rattle.group_packets.specs.Packets.{part_written}
+use Rattle.causal_history.specs.Rows.{Row, card_among, cards_of}
 use Rattle.wire_codec.specs.Packets as packets
 use Rattle.wire_codec.specs.Packets.{AddressedPart, Body, Sealed, WelcomeRows, text, text_body}
 use Rattle.welcome_history.specs.Welcomes.{IsWelcomeOf}

@@ -104,14 +104,14 @@ module _ {K P : Type 0} (kem : Ghosts K P) (rule : History → List Id) (is_rule
       (record { answered = y.answered; unanswered = y.unanswered }) in
       elim (answer-or-not rule (own_id kem M) (known_before kem packet M) m) [
         | inl needs ↦ (
-          let p = x.answered needs in
-          let q = z.answered needs in
-          let same : p.0 ≡ q.0 = answers-one packet old p.0 q.0 p.2 q.2 in
-          (p.1 ∙ ap (λ (w : MadeMessage). Some w) same ∙ sym q.1, p.3 ∙ ap (λ w. with_made kem t w (with_taken kem packet M)) same ∙ sym q.3))
+            let p = x.answered needs in
+            let q = z.answered needs in
+            let same : p.0 ≡ q.0 = answers-one packet old p.0 q.0 p.2 q.2 in
+            (p.1 ∙ ap (λ (w : MadeMessage). Some w) same ∙ sym q.1, p.3 ∙ ap (λ w. with_made kem t w (with_taken kem packet M)) same ∙ sym q.3))
         | inr none ↦ (
-          let p = x.unanswered none in
-          let q = z.unanswered none in
-          (p.0 ∙ sym q.0, p.1 ∙ sym q.1))
+            let p = x.unanswered none in
+            let q = z.unanswered none in
+            (p.0 ∙ sym q.0, p.1 ∙ sym q.1))
       ]
     where
       answers-one : (packet : ReadPacket) → IsHistory (known (with_taken kem packet M)) → (p q : MadeMessage)
@@ -153,8 +153,7 @@ module _ {K P : Type 0} (kem : Ghosts K P) (rule : History → List Id) (is_rule
       let rest = one-run steps b b' older older' run run' in
       let s = step-one step b message message' after after'
       (λ B e. run-sound kem rule steps B older (subst (λ z. IsRunOf kem rule steps z older) e run)) accepts
-      (subst (λ z. Accepts kem rule z step message' after') (sym rest.0) accepts') in
-      (
+      (subst (λ z. Accepts kem rule z step message' after') (sym rest.0) accepts') in (
         is ∙ ap (λ (z : Member). Some z) s.1 ∙ sym is',
         made_is ∙ ap (λ z. with_message z older) s.0 ∙ ap (λ z. with_message message' z) rest.1 ∙ sym made_is',
       )

@@ -1,21 +1,21 @@
 -- An owner of a member's log, by the cards of its history.
-use Rattle.std.proofs.Common.{◌≡◌, true, List, [], ◌∷◌, map, Option, Some, None, IsSome, cond, refl, sym, ◌∙◌, ap, subst}
+use Rattle.std.proofs.Common.{◌≡◌, true, List, [], ◌∷◌, Option, None, IsSome, refl, ◌∙◌, ap}
 use Rattle.std.specs.Option.{option_map_or}
 use Rattle.std.specs.Str.{bytes_eq}
 use Rattle.kem_trait.specs.declared.kem.Kem.{Ghosts}
 use Rattle.group_fields.specs.Cards.{card_id}
 use Rattle.group_fields.specs.declared.card.Card.{Card}
-use Rattle.group_model.specs.Sets.{Bytes, Id, In, here, there}
+use Rattle.group_model.specs.Sets.{Bytes, Id}
 use Rattle.group_model.specs.Messages.{History}
 use Rattle.group_model.specs.Membership.{IsMembershipRule}
 use Rattle.group_model.specs.Settings.{Owner}
 use Rattle.group_model.proofs.ListFacts.{no_is, test, yes_is}
 use Rattle.group_keys.specs.Primitives.{primitives_of}
 use Rattle.group_parts.proofs.Tested as tested
-use Rattle.causal_history.specs.Rows.{card_among, cards_of}
+use Rattle.causal_history.specs.Rows.{cards_of}
 use Rattle.causal_cast.specs.Judging.{inviter_by, inviter_in}
 use Rattle.reference_member.specs.Members.{HaveOneEach, IsOwner, Member, own_id, own_pair, public_key_by}
-use Rattle.reference_member.proofs.OwnerForms.{Encapsulates, first-of, in-map, inviter-first, owner_with}
+use Rattle.reference_member.proofs.OwnerForms.{first-of, in-map, inviter-first, owner_with}
 
 module _ {K P : Type 0} (kem : Ghosts K P) where
   -- an inviter by the cards is that of a first card, whose key is a public key

@@ -1,23 +1,21 @@
 -- What a packet that is read carries for its model.
-use Rattle.std.proofs.Common.{◌≡◌, List, [], ◌∷◌, Option, Some, None, map, refl, sym, ◌∙◌, ap, subst}
+use Rattle.std.proofs.Common.{◌≡◌, List, [], ◌∷◌, Some, None, map, refl, sym, ◌∙◌, ap, subst}
 use Rattle.kem_trait.specs.declared.kem.Kem.{Ghosts}
-use Rattle.group_fields.specs.Cards.{card_id}
 use Rattle.group_fields.specs.Headers.{SuitsKind}
-use Rattle.group_fields.specs.declared.card.Card.{Card}
 use Rattle.group_fields.specs.declared.header.Kind.{Kind as HeaderKind}
 use Rattle.group_fields.specs.declared.header.Kind.TheVariants as kinds
 use Rattle.group_fields.specs.declared.header.Target.{Target}
 use Rattle.group_fields.specs.declared.header.Target.TheVariants as targets
 use Rattle.group_fields.specs.declared.ids.Digest.{Digest}
 use Rattle.group_model.specs.Sets.{Bytes, Id}
-use Rattle.group_model.specs.Messages.{Kind, Create, Update, Remove, Add, Ack, AddAck, Text}
+use Rattle.group_model.specs.Messages.{Create, Add}
 use Rattle.group_model.specs.Membership.{named_by}
 use Rattle.group_model.specs.Packets.{Addressed}
 use Rattle.group_messages.specs.Messages.{ids_of, kind_by, kind_of, header_kind}
 use Rattle.group_messages.proofs.HeaderFacts.{header_kind-kind_by}
 use Rattle.group_packets.specs.Packets.{addressed_of}
-use Rattle.wire_codec.specs.Packets.{AddressedPart, Body, IsPacket, Packet as ReadPacket, WelcomeRows, body_of, id_of, member_named, members_named}
-use Rattle.wire_codec.specs.Order.{CarriesWhatSuits, IsInOrder, SuitsHeader, card_ids}
+use Rattle.wire_codec.specs.Packets.{AddressedPart, Body, IsPacket, Packet as ReadPacket, WelcomeRows, body_of, id_of}
+use Rattle.wire_codec.specs.Order.{CarriesWhatSuits, card_ids}
 use Rattle.wire_codec.proofs.Joins.{in_order, suits_header}
 use Rattle.causal_cast.specs.Judging.{receivers}
 use Rattle.reference_member.specs.Accepted.{row_of_packet}

@@ -1,10 +1,10 @@
 -- Rows that have the cards of the ids that they name.
-use Rattle.std.proofs.Common.{◌≡◌, List, [], ◌∷◌, ◌++◌, map, reverse, Some, refl, sym, ◌∙◌, ap, subst, inl, inr, true, false}
+use Rattle.std.proofs.Common.{◌≡◌, List, [], ◌∷◌, ◌++◌, map, reverse, refl, sym, ◌∙◌, ap, subst, inl, inr, true, false}
 use Rattle.std.proofs.lemmas.List.{reverse-append}
 use Rattle.group_fields.specs.Cards.{card_id}
 use Rattle.group_fields.specs.declared.card.Card.{Card}
 use Rattle.group_model.specs.Sets.{Id, In, here, there}
-use Rattle.group_model.specs.Messages.{Kind, Create, Update, Remove, Add, Ack, AddAck, Text, Message, History, past, with_past}
+use Rattle.group_model.specs.Messages.{Kind, Create, Update, Remove, Add, Ack, AddAck, Text, Message, History, with_past}
 use Rattle.group_model.specs.Membership.{InView, IsAddressee, IsMembershipRule, Named, Names, named_by}
 use Rattle.group_model.proofs.ListFacts.{In-cases, In-either, In-left, In-nothing, In-right}
 use Rattle.group_model.proofs.Pasts.{past-within}

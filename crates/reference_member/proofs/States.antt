@@ -1,8 +1,8 @@
 -- What is kept of a member from step to step.
-use Rattle.std.proofs.Common.{◌≡◌, ◌⊎◌, List, [], ◌∷◌, ◌++◌, Option, Some, None, refl, sym, subst, inl, inr}
+use Rattle.std.proofs.Common.{◌≡◌, ◌⊎◌, List, [], ◌∷◌, ◌++◌, Some, None, refl, sym, subst, inl}
 use Rattle.kem_trait.specs.declared.kem.Kem.{Ghosts}
 use Rattle.group_fields.specs.declared.card.Card.{Card}
-use Rattle.group_model.specs.Sets.{Id, In}
+use Rattle.group_model.specs.Sets.{Id}
 use Rattle.group_model.specs.Messages.{History, IsHistory}
 use Rattle.group_model.specs.Packets.{Given}
 use Rattle.group_model.specs.Settings.{Owner}

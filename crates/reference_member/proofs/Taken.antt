@@ -1,42 +1,38 @@
 -- A packet that is ready may be taken by the member's log.
-use Rattle.std.proofs.Common.{◌≡◌, ◌≢◌, ◌⊎◌, Bool, true, false, List, [], ◌∷◌, ◌++◌, map, Option, Some, None, IsSome, refl, sym, ◌∙◌, ap, subst, inl, inr}
+use Rattle.std.proofs.Common.{◌≡◌, ◌≢◌, ◌⊎◌, true, List, [], ◌∷◌, ◌++◌, Option, Some, None, IsSome, refl, sym, ◌∙◌, ap, subst, inl, inr}
 use Rattle.std.specs.Prelude.{is_some}
 use Rattle.kem_trait.specs.declared.kem.Kem.{Ghosts}
-use Rattle.group_fields.specs.Cards.{card_id}
 use Rattle.group_fields.specs.declared.card.Card.{Card}
-use Rattle.group_model.specs.Sets.{Bytes, Id, In, here, there}
+use Rattle.group_model.specs.Sets.{Bytes, Id, In, here}
 use Rattle.group_model.specs.Messages.{Kind, Create, Update, Remove, Add, Ack, AddAck, Text, Message, History, IsHistory, Stands}
 use Rattle.group_model.specs.Membership.{InView, IsAddressee, IsMembershipRule, IsRecipient, IsSeeded, Names, named_by}
-use Rattle.group_model.specs.Validity.{IsInvited, MayFollow, Opens, SendsParts}
+use Rattle.group_model.specs.Validity.{Opens, SendsParts}
 use Rattle.group_model.specs.Primitives.{KeyPair, Primitives}
 use Rattle.group_model.specs.KeyTerms.{member_secret, welcome_word}
 use Rattle.group_model.specs.Pairing.{PairEvent, Part}
 use Rattle.group_model.specs.Packets.{Packet, part_for}
 use Rattle.group_model.specs.Settings.{Owner}
-use Rattle.group_model.specs.Logs.{Log, LogEntry, Took, hist}
-use Rattle.group_model.specs.LawfulLogs.{IsLawfulLog, TakesPacket}
+use Rattle.group_model.specs.Logs.{Log, Took, hist}
+use Rattle.group_model.specs.LawfulLogs.{TakesPacket}
 use Rattle.group_model.specs.Knowledge.{answer_by, answer_known, events, handed_by, known as ratchet_known, or_else, payload, payload_in, prior_of}
 use Rattle.group_model.specs.Conduct.{Follows, waiting}
 use Rattle.group_model.proofs.ListFacts.{In-nothing, equal_id}
 use Rattle.group_model.proofs.LogLaws.{log_kept}
 use Rattle.group_model.proofs.Knowing.{answer-own}
 use Rattle.group_keys.specs.Primitives.{primitives_of}
-use Rattle.group_messages.specs.Messages.{kind_of, message_of}
+use Rattle.group_messages.specs.Messages.{message_of}
 use Rattle.group_packets.specs.Packets.{packet_of}
-use Rattle.causal_history.specs.Rows.{Row, cards_of, history_of}
+use Rattle.causal_history.specs.Rows.{Row, cards_of}
 use Rattle.causal_history.proofs.RowFacts.{history-push}
 use Rattle.member_view.specs.Causes.{IsFirst}
 use Rattle.wire_codec.specs.Packets.{IsPacket, Packet as ReadPacket}
 use Rattle.causal_cast.specs.Judging.{inviter_by, receivers}
-use Rattle.causal_cast.specs.Taken.{IsSeenBy}
-use Rattle.causal_cast.specs.Verdicts.{MayBeTaken, verdicts}
+use Rattle.causal_cast.specs.Verdicts.{verdicts}
 use Rattle.causal_cast.specs.declared.verdict.Verdict.TheVariants as answers
 use Rattle.causal_cast.proofs.ReadyFacts.{ready-may_be_taken, taken-lawful}
 use Rattle.causal_cast.proofs.Taking.{part-due}
 use Rattle.reference_member.specs.Members.{Member, judging, known, own_id, own_pair}
-use Rattle.reference_member.specs.Refusals.{IsOut}
-use Rattle.reference_member.specs.Accepted.{part_opens, row_of_packet}
-use Rattle.reference_member.proofs.Answering.{TakesSecret, WasSeen}
+use Rattle.reference_member.specs.Accepted.{row_of_packet}
 use Rattle.reference_member.proofs.Entered.{Entered, Takings, with_entry}
 use Rattle.reference_member.proofs.Makes.{owner}
 use Rattle.reference_member.proofs.OwnerForms.{Encapsulates, SaysOf, fewer-said, inviter-said}

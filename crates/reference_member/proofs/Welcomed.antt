@@ -1,31 +1,29 @@
 -- What a first packet that is ready tells of the rows that it hands on.
-use Rattle.std.proofs.Common.{◌≡◌, ◌≢◌, ◌⊎◌, ℕ, suc, true, List, [], ◌∷◌, ◌++◌, map, Option, Some, None, IsSome, refl, sym, ◌∙◌, ap, subst, inl, inr}
-use Rattle.std.specs.Str.{bytes_eq}
+use Rattle.std.proofs.Common.{◌≡◌, ◌≢◌, ℕ, suc, List, [], ◌∷◌, ◌++◌, map, Option, Some, None, IsSome, refl, sym, ◌∙◌, ap, subst, inl, inr}
 use Rattle.group_fields.specs.Cards.{card_id}
 use Rattle.group_fields.specs.declared.card.Card.{Card}
 use Rattle.group_fields.specs.declared.header.Header.{Header}
 use Rattle.group_model.specs.Sets.{Id, In, here, there}
-use Rattle.group_model.specs.Messages.{Kind, Create, Update, Remove, Add, Ack, AddAck, Text, Message, History, IsHistory, Stands, past}
-use Rattle.group_model.specs.Membership.{Named, Names, ids_named, named_by}
-use Rattle.group_model.specs.Validity.{AllValid, AreUnforked, GoesOn, IsUnforked, MayFollow, Opens}
+use Rattle.group_model.specs.Messages.{Kind, Create, Update, Remove, Add, Ack, AddAck, Text, Message, History, Stands, past}
+use Rattle.group_model.specs.Membership.{Named, Names}
+use Rattle.group_model.specs.Validity.{AllValid, AreUnforked, IsUnforked, MayFollow}
 use Rattle.group_model.proofs.ListFacts.{In-cases, In-nothing}
 use Rattle.group_model.proofs.Pasts.{past-within}
-use Rattle.group_model.proofs.RemoveWins.{Named-ids_named}
-use Rattle.group_messages.specs.Messages.{kind_of, message_of}
-use Rattle.causal_history.specs.Rows.{Row, card_among, cards_of, history_of, row_message}
+use Rattle.group_messages.specs.Messages.{message_of}
+use Rattle.causal_history.specs.Rows.{Row, card_among, history_of}
 use Rattle.causal_history.proofs.RowFacts.{history-none, history-push}
-use Rattle.member_view.specs.Causes.{Cause, Causes, IsFirst}
+use Rattle.member_view.specs.Causes.{Causes, IsFirst}
 use Rattle.wire_codec.specs.Packets.{Packet as ReadPacket, WelcomeRows}
 use Rattle.causal_cast.specs.Judging.{Judging, inviter_by}
-use Rattle.causal_cast.specs.Verdicts.{SuitsKind, from_rules}
+use Rattle.causal_cast.specs.Verdicts.{from_rules}
 use Rattle.causal_cast.specs.declared.verdict.Verdict.{Verdict}
 use Rattle.causal_cast.specs.declared.verdict.Verdict.TheVariants as answers
 use Rattle.causal_cast.proofs.Begun.{begun-with, follows}
 use Rattle.causal_cast.proofs.Inviters.{goes_on-moved}
 use Rattle.welcome_history.specs.Joining.{CardsHold, EndHolds, IsInvitation, Joining, SuitsCreate, first_verdicts, judging, on_history, on_kind, on_rows}
 use Rattle.welcome_history.specs.Welcomes.{before, cards_for, row_of, rows_of}
-use Rattle.reference_member.proofs.OwnerForms.{HasFirst, first-of, from-map}
-use Rattle.reference_member.proofs.RowsNamed.{append-more, row-of as row-with}
+use Rattle.reference_member.proofs.OwnerForms.{first-of}
+use Rattle.reference_member.proofs.RowsNamed.{append-more}
 
 -- ---- the kind of a first packet
 
