@@ -9,8 +9,8 @@ use Rattle.member_identity.specs.Identity.{HasCards}
 
 -- what a step is given beside its random bytes
 pub data Input : Type 0 where
-  -- makes the member: with the only one that may take it into a group, which 32 zero bytes say is nobody, and the height
-  -- of its signing tree
+  -- makes the member: with the only one that may take it into a group, which 32 zero bytes say is nobody, and the
+  -- height of its signing tree
   Init : (inviter : Id) → (height : ℕ) → Input
   -- opens a group with the members of these cards
   Create : (cards : List Card) → Input
