@@ -1,4 +1,3 @@
 mod AddBody
 mod AddMoves
 mod Forgotten
-mod TestFacts
