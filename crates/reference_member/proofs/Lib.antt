@@ -17,3 +17,4 @@ pub mod Lawful
 pub mod OwnersThere
 pub mod OneNext
 pub mod OneRun
+pub mod CardsSpelled
