@@ -23,7 +23,7 @@ use Rattle.group_model.specs.Packets.{Given}
 use Rattle.group_model.specs.Settings.{Owner}
 use Rattle.group_model.proofs.ListFacts.{In-cases, In-either, In-nothing, no_is, some_same, test, yes_is}
 use Rattle.group_model.proofs.Parts.{gives, gives_none, present}
-use Rattle.group_messages.specs.Messages.{IsCollision, kind_of, message_of}
+use Rattle.group_messages.specs.Messages.{kind_of, message_of}
 use Rattle.group_messages.proofs.HeaderFacts.{one_or_collision}
 use Rattle.causal_history.specs.Rows.{Row, card_among, cards_of}
 use Rattle.wire_codec.specs.Packets.{Body, IsPacket, Packet as ReadPacket, WelcomeRows, add_body, body, body_of, card_named, cards_above, create_body, history, id_of, member_named, members_named, parts_body, text_body}
@@ -32,7 +32,7 @@ use Rattle.wire_codec.proofs.CardBytes.{cards_above_plain, cards_named_plain}
 use Rattle.wire_codec.proofs.InOrder.{counted_items}
 use Rattle.wire_codec.proofs.Joins.{apart, in_order}
 use Rattle.welcome_history.specs.Welcomes.{before, cards_for, row_of, rows_of}
-use Rattle.reference_member.specs.Members.{IsOwner, Member, own_id}
+use Rattle.reference_member.specs.Members.{HaveCollision, IsOwner, Member, own_id}
 use Rattle.reference_member.specs.Messages.{IsByCommand, IsNext, MadeMessage, answer_kind}
 use Rattle.reference_member.specs.Steps as inputs
 use Rattle.reference_member.specs.Steps.{HasBytes, Input, Step}
@@ -266,53 +266,52 @@ module _ {K P : Type 0} (kem : Ghosts K P) (rule : History → List Id) where
 
 -- ---- cards of one id
 
-abbrev Collide : Type 0
-Collide = (a : Bytes) × (b : Bytes) × IsCollision a b
-
-pair-one : (a b : Card) → HasBytes a → HasBytes b → (card_id a ≡ card_id b → a ≡ b) ⊎ Collide
-unfolding card_id
-pair-one a b x y = elim (same-or-not (card_id a) (card_id b)) [
-  | inr n ↦ inl (λ e. absurd (n e))
-  | inl e ↦ elim (one_or_collision (spelling a) (spelling b) e) [
-    | inl s ↦ inl (λ d. one_card (spelling b) a b (subst (λ z. card_words.Spells a z) s x) y)
-    | inr c ↦ inr (spelling a, spelling b, c)
+module _ (all : List Card) where
+  pair-one : (a b : Card) → In a all → In b all → HasBytes a → HasBytes b → (card_id a ≡ card_id b → a ≡ b) ⊎ HaveCollision all
+  unfolding card_id
+  pair-one a b in_a in_b x y = elim (same-or-not (card_id a) (card_id b)) [
+    | inr n ↦ inl (λ e. absurd (n e))
+    | inl e ↦ elim (one_or_collision (spelling a) (spelling b) e) [
+      | inl s ↦ inl (λ d. one_card (spelling b) a b (subst (λ z. card_words.Spells a z) s x) y)
+      | inr c ↦ inr (record { one = a; other = b; has_one = in_a; has_other = in_b; collide = c })
+    ]
   ]
-]
 
-against-one : (a : Card) → HasBytes a → (cards : List Card) → AreSpelled cards
-    → ((b : Card) → In b cards → card_id a ≡ card_id b → a ≡ b) ⊎ Collide
-against-one a x [] s = inl (λ b i e. absurd (In-nothing i))
-against-one a x (c ∷ cards) s = elim (pair-one a c x (s c here)) [
-  | inr d ↦ inr d
-  | inl f ↦ elim (against-one a x cards (λ b i. s b (there i))) [
+  against-one : (a : Card) → In a all → HasBytes a → (cards : List Card) → ((b : Card) → In b cards → In b all) → AreSpelled cards
+      → ((b : Card) → In b cards → card_id a ≡ card_id b → a ≡ b) ⊎ HaveCollision all
+  against-one a in_a x [] w s = inl (λ b i e. absurd (In-nothing i))
+  against-one a in_a x (c ∷ cards) w s = elim (pair-one a c in_a (w c here) x (s c here)) [
     | inr d ↦ inr d
-    | inl g ↦ inl (λ b i. elim (In-cases i) [
-      | inl e ↦ subst (λ z. card_id a ≡ card_id z → a ≡ z) (sym e) f
-      | inr j ↦ g b j
-    ])
+    | inl f ↦ elim (against-one a in_a x cards (λ b i. w b (there i)) (λ b i. s b (there i))) [
+      | inr d ↦ inr d
+      | inl g ↦ inl (λ b i. elim (In-cases i) [
+        | inl e ↦ subst (λ z. card_id a ≡ card_id z → a ≡ z) (sym e) f
+        | inr j ↦ g b j
+      ])
+    ]
   ]
-]
 
-all-one : (xs cards : List Card) → AreSpelled xs → AreSpelled cards
-    → ((a b : Card) → In a xs → In b cards → card_id a ≡ card_id b → a ≡ b) ⊎ Collide
-all-one [] cards s k = inl (λ a b i j e. absurd (In-nothing i))
-all-one (x ∷ xs) cards s k = elim (against-one x (s x here) cards k) [
-  | inr d ↦ inr d
-  | inl f ↦ elim (all-one xs cards (λ b i. s b (there i)) k) [
+  all-one : (xs : List Card) → ((b : Card) → In b xs → In b all) → AreSpelled all
+      → ((a b : Card) → In a xs → In b all → card_id a ≡ card_id b → a ≡ b) ⊎ HaveCollision all
+  all-one [] w k = inl (λ a b i j e. absurd (In-nothing i))
+  all-one (x ∷ xs) w k = elim (against-one x (w x here) (k x (w x here)) all (λ b i. i) k) [
     | inr d ↦ inr d
-    | inl g ↦ inl (λ a b i j. elim (In-cases i) [
-      | inl e ↦ subst (λ z. card_id z ≡ card_id b → z ≡ b) (sym e) (f b j)
-      | inr l ↦ g a b l j
-    ])
+    | inl f ↦ elim (all-one xs (λ b i. w b (there i)) k) [
+      | inr d ↦ inr d
+      | inl g ↦ inl (λ a b i j. elim (In-cases i) [
+        | inl e ↦ subst (λ z. card_id z ≡ card_id b → z ≡ b) (sym e) (f b j)
+        | inr l ↦ g a b l j
+      ])
+    ]
   ]
-]
 
--- the member of a run has an owner, or digests collide
+-- the member of a run has an owner, or two of the cards collide
 pub owner-or-collision : {K P : Type 0} (kem : Ghosts K P) (rule : History → List Id) → IsMembershipRule rule → (steps : List Step)
-    (M : Member) (made : List MadeMessage) → IsRunOf kem rule steps (Some M) made → ((O : Owner) × IsOwner kem rule M O) ⊎ Collide
+    (M : Member) (made : List MadeMessage) → IsRunOf kem rule steps (Some M) made
+    → ((O : Owner) × IsOwner kem rule M O) ⊎ HaveCollision (cards_of M.rows)
 owner-or-collision kem rule is_rule steps M made run =
     let s = cards-spelled kem rule steps M made run in
-    elim (all-one (cards_of M.rows) (cards_of M.rows) s s) [
+    elim (all-one (cards_of M.rows) (cards_of M.rows) (λ b i. i) s) [
       | inl one ↦ inl (owner-there kem rule M is_rule one)
       | inr d ↦ inr d
     ]

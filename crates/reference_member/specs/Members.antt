@@ -2,7 +2,7 @@
 use Rattle.std.specs.Prelude.{◌≡◌, ℕ, ◌^◌, Bool, nat_lt, List, []}
 use Rattle.std.specs.Option.{option_map_or}
 use Rattle.kem_trait.specs.declared.kem.Kem.{Ghosts}
-use Rattle.group_fields.specs.Cards.{card_id}
+use Rattle.group_fields.specs.Cards.{card_id, spelling}
 use Rattle.group_fields.specs.declared.card.Card.{Card}
 use Rattle.group_model.specs.Sets.{Bytes, Id, In}
 use Rattle.group_model.specs.Messages.{History}
@@ -11,6 +11,7 @@ use Rattle.group_model.specs.Logs.{Log}
 use Rattle.group_model.specs.Settings.{Owner}
 use Rattle.group_model.specs.Validity.{count_of}
 use Rattle.group_keys.specs.Primitives.{primitives_of}
+use Rattle.group_messages.specs.Messages.{IsCollision}
 use Rattle.causal_history.specs.Rows.{Row, card_among, cards_of, history_of}
 use Rattle.member_identity.specs.Identity.{card_with, signing_tree}
 use Rattle.lms_sign.specs.Trees.{LmsTree}
@@ -38,6 +39,14 @@ tree M = signing_tree M.height M.random
 -- of each id there is one card at most
 abbrev pub HaveOneEach : List Card → Type 0
 HaveOneEach cards = (a b : Card) → In a cards → In b cards → card_id a ≡ card_id b → a ≡ b
+
+-- two of the cards are spelled apart, and have one id
+pub record HaveCollision (cards : List Card) : Type 0 where
+  pub one : Card
+  pub other : Card
+  pub has_one : In one cards
+  pub has_other : In other cards
+  pub collide : IsCollision (spelling one) (spelling other)
 
 -- the public key in the card of an id, where cards have one of it
 abbrev pub public_key_by : List Card → Id → Bytes

@@ -1,6 +1,6 @@
 -- The message that a member makes next: its header and its body. docs/GROUP.md, "The reference member".
-use Rattle.std.specs.Prelude.{◌≡◌, ◌+◌, ◌-◌, Bool, true, cond, List, [], ◌∷◌, ◌++◌, Option, Some, None, bytes_eq, codes, ◌↔◌}
-use Rattle.std.specs.Prelude.{map}
+use Rattle.std.specs.Prelude.{◌≡◌, ◌+◌, ◌-◌, Bool, true, cond, List, [], ◌∷◌, ◌++◌, Option, Some, None, bytes_eq, codes}
+use Rattle.std.specs.Prelude.{map, ◌↔◌}
 use Rattle.std.specs.Option.{option_map_or}
 use Rattle.kem_trait.specs.declared.kem.Kem.{Ghosts}
 use Rattle.sha2.specs.Sha256.{sha256}

@@ -1,16 +1,15 @@
 //! Laws of the reference member. Each function does nothing; its contract is the law.
 
 ghost use Rattle.std.specs.Prelude.{◌≡◌, ◌⊎◌, List, None, Option, Some};
-ghost use Rattle.group_model.specs.Sets.{Bytes, Id};
+ghost use Rattle.group_model.specs.Sets.{Id};
 ghost use Rattle.group_model.specs.Messages.{History};
 ghost use Rattle.group_model.specs.Membership.{IsMembershipRule};
 ghost use Rattle.group_model.specs.Logs.{hist};
 ghost use Rattle.group_model.specs.Settings.{Owner};
 ghost use Rattle.group_model.specs.LawfulLogs.{IsLawfulLog};
 ghost use Rattle.group_model.specs.Conduct.{AnswersAtOnce, waiting};
-ghost use Rattle.group_messages.specs.Messages.{IsCollision};
 ghost use Rattle.causal_history.specs.Rows.{cards_of};
-ghost use Rattle.reference_member.specs.Members.{HaveOneEach, IsOwner, Member, known};
+ghost use Rattle.reference_member.specs.Members.{HaveCollision, HaveOneEach, IsOwner, Member, known};
 ghost use Rattle.reference_member.specs.Messages.{MadeMessage};
 ghost use Rattle.reference_member.specs.Steps.{HasRecord, Step, record_of};
 ghost use Rattle.reference_member.specs.Refusals.{IsOut};
@@ -42,14 +41,14 @@ pub fn logs_are_lawful<K: Kem>()
         → (waiting M.log ≡ None) ⊎ IsOut ⟦<K as Kem>⟧ rule M }
 {}
 
-/// The log of a member has an owner where of each id there is one card at most in its history. After steps there is one,
-/// or two byte strings have one digest.
+/// The log of a member has an owner where of each id there is one card at most in its history. After steps it has one,
+/// or two cards of the history are spelled apart and have one digest.
 pub fn owners_are_there<K: Kem>()
     ensures by_cards { (rule : History → List Id) (M : Member) → IsMembershipRule rule → HaveOneEach (cards_of M.rows)
         → (O : Owner) × IsOwner ⟦<K as Kem>⟧ rule M O }
     ensures after_steps { (rule : History → List Id) → IsMembershipRule rule → (steps : List Step) (M : Member)
         (made : List MadeMessage) → IsRunOf ⟦<K as Kem>⟧ rule steps (Some M) made
-        → ((O : Owner) × IsOwner ⟦<K as Kem>⟧ rule M O) ⊎ ((a : Bytes) × (b : Bytes) × IsCollision a b) }
+        → ((O : Owner) × IsOwner ⟦<K as Kem>⟧ rule M O) ⊎ HaveCollision (cards_of M.rows) }
 {}
 
 /// Steps have one member and one list of messages.
