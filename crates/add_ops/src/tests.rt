@@ -1,3 +1,3 @@
-//! Adds of a small group, and their answers.
+//! Adds of a small group.
 
 mod adding;
