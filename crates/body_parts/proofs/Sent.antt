@@ -1,5 +1,5 @@
 -- The parts that are made are those of the model, one for each receiver, and what is held stands for the book after them.
-use Rattle.std.proofs.Common.{◌≡◌, ◌≢◌, inl, inr, ℕ, suc, ◌<◌, ◌-◌, ◌^◌, Bool, true, false, cond, ◌&&◌, nat_eq, nat_lt, List, [], ◌∷◌, length, map, Option, Some, None, refl, sym, ◌∙◌, ap, subst, option_map, bytes_eq}
+use Rattle.std.proofs.Common.{◌≡◌, ◌≢◌, inl, inr, ℕ, suc, ◌<◌, ◌-◌, ◌^◌, Bool, true, false, cond, ◌&&◌, nat_eq, nat_lt, List, [], ◌∷◌, length, map, get_or, Option, Some, None, refl, sym, ◌∙◌, ap, subst, option_map, bytes_eq}
 use Rattle.std.specs.Prelude.{IsSome, IfSome, is_some, slice_index}
 use Rattle.std.specs.Option.{option_and_then}
 use Rattle.std.proofs.lemmas.Option.{get_or_from_slice_get, slice_get_within}
@@ -19,7 +19,7 @@ use Rattle.group_model.proofs.ListFacts.{test, yes_is, no_is, other_id, has-In, 
 use Rattle.group_model.proofs.Places.{place-one}
 use Rattle.group_parts.specs.Parts.{IsSized, part_bytes, part_in, part_len, part_read}
 use Rattle.group_keys.specs.Primitives.{primitives_of}
-use Rattle.group_packets.specs.Packets.{addressed_of}
+use Rattle.group_packets.specs.Packets.{addressed_of, part_written}
 use Rattle.member_book.specs.Books.{BookState, put}
 use Rattle.member_book.specs.BooksAfter.{part_by}
 use Rattle.member_book.specs.Calls.{sends_each}
@@ -172,6 +172,7 @@ module _ {K P : Type 0} (kem : Ghosts K P) where
   none_made payload drawn b = record {
     count = refl;
     met = refl;
+    written = refl;
     sends = λ O ids state random h placed from. record { sent = refl; stands = h };
   }
 
@@ -183,6 +184,9 @@ module _ {K P : Type 0} (kem : Ghosts K P) where
   more_made places r others payload drawn left before mid after one parts are up taken first rest = record {
     count = ap suc rest.count;
     met = rest.met ∙ first.met;
+    written = ap (λ (a : AddressedPart). a ∷ map (part_written kem) (map (addressed_of kem) parts))
+        (ap (λ (l : List AddressedPart). get_or l 0 one) first.written)
+        ∙ ap (λ (l : List AddressedPart). one ∷ l) rest.written;
     sends = λ O ids state random h placed from.
         let y = id_to r in
         let apart : (z : Id) → In z (ids_to others) → y ≡ z → ⊥ = other_than places r others are up in
@@ -255,6 +259,13 @@ module _ {K P : Type 0} (kem : Ghosts K P) where
         (subst (λ (x : Id). HeldStands kem O ids (sealed_at r.place m.draw before)
         (record state { events = put state.events x (Sent m.draw ∷ state.events x) })) own (calls.sends m.draw (ap is_some k.1))))
 
+    -- the bytes of a part that was sealed read as that part
+    read_back : ((part : Part) → IsSized kem part → part_read kem (part_bytes kem part) ≡ Some part)
+        → (r : Receiver) (payload : Bytes) (drawn : List Drawn) (before after : HeldBook) (bytes : Bytes)
+        → (m : IsSealedFor kem r payload drawn before after bytes) → part_in kem bytes ≡ m.part
+    read_back back r payload drawn before after bytes m =
+        ap (part_in kem) m.are ∙ read_is (part_bytes kem m.part) m.part (back m.part m.sized)
+
     pub one_made : ((part : Part) → IsSized kem part → part_read kem (part_bytes kem part) ≡ Some part)
         → (r : Receiver) (payload : Bytes) (drawn : List Drawn) (before after : HeldBook) (bytes : Bytes)
         → IsSealedFor kem r payload drawn before after bytes
@@ -262,11 +273,13 @@ module _ {K P : Type 0} (kem : Ghosts K P) where
     one_made back r payload drawn before after bytes m = record {
       count = refl;
       met = ap (λ (b : HeldBook). b.met) m.held;
+      written = ap (λ (q : Part). (let a : AddressedPart = record { to = r.member; bytes = part_bytes kem q } in a ∷ [])) (read_back back r payload drawn before after bytes m)
+          ∙ ap (λ (b : Bytes). (let a : AddressedPart = record { to = r.member; bytes = b } in a ∷ [])) (sym m.are);
       sends = λ O ids state random h placed from.
           let y = id_to r in
           let drew : draws O.primitives random y ≡ Some m.draw =
           ap (λ (M : Primitives). draws M random y) h.primitives ∙ sym (from y here) ∙ m.left in
-          let read : part_in kem bytes ≡ m.part = ap (part_in kem) m.are ∙ read_is (part_bytes kem m.part) m.part (back m.part m.sized) in
+          let read : part_in kem bytes ≡ m.part = read_back back r payload drawn before after bytes m in
           record {
             sent = ap (option_and_then (λ (q : Part). option_map (λ (rest : List Addressed). record { to = y; part = q } ∷ rest) (Some [])))
                 (part_is r payload drawn before after bytes m O ids state random h (placed r here) drew)

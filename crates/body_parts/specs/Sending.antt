@@ -13,7 +13,7 @@ use Rattle.group_model.specs.Parts.{parts_of}
 use Rattle.group_model.specs.Settings.{Owner}
 use Rattle.group_parts.specs.Parts.{IsSized, part_bytes}
 use Rattle.group_keys.specs.Primitives.{primitives_of}
-use Rattle.group_packets.specs.Packets.{addressed_of}
+use Rattle.group_packets.specs.Packets.{addressed_of, part_written}
 use Rattle.member_book.specs.Books.{BookState}
 use Rattle.member_book.specs.BooksAfter.{part_by}
 use Rattle.member_book.specs.Calls.{sends_each}
@@ -75,6 +75,8 @@ module _ {K P : Type 0} (kem : Ghosts K P) where
       (parts : List AddressedPart) : Type 0 where
     pub count : length parts ≡ length to
     pub met : after.met ≡ before.met
+    -- each is the one spelling of a part
+    pub written : map (part_written kem) (map (addressed_of kem) parts) ≡ parts
     -- whatever book of the model was stood for
     pub sends : (O : Owner) (ids : List Id) (state : BookState) (random : Bytes) → HeldStands kem O ids before state
         → ArePlaced ids to → AreDrawnFrom (primitives_of kem) random drawn (ids_to to)
