@@ -4,7 +4,6 @@ use Rattle.group_messages.proofs.HeaderFacts.{ascending-distinct}
 use Rattle.group_model.specs.Sets.{Id, In, IsDistinct}
 use Rattle.causal_history.specs.Bits.{bit}
 use Rattle.secret_book.specs.HeldBooks.{held}
-use Rattle.body_parts.specs.declared.addressing.Receiver.{Receiver}
 use Rattle.body_parts.specs.Receivers.{ArePlaced, AreReceivers, id_to}
 use Rattle.group_ops.proofs.Founded.{all_ids, few_ids, founded, ids_in}
 use Rattle.group_ops.proofs.making.create_body.Goals as goal
