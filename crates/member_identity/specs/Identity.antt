@@ -1,10 +1,11 @@
 -- What a member is by the step that made it: its key pair, its signing tree and its card. Each secret of it is derived from
 -- the random bytes under a label of its own.
-use Rattle.std.specs.Prelude.{ℕ, IsTrue, ◌==◌, ◌&&◌, ◌||◌, List, [], take, codes, Option}
+use Rattle.std.specs.Prelude.{◌≡◌, ℕ, IsTrue, ◌==◌, ◌&&◌, ◌||◌, List, [], take, codes, Option, Some}
 use Rattle.std.specs.Option.{option_map}
 use Rattle.hkdf_seal.specs.Keys.{kdf}
 use Rattle.lms_sign.specs.Trees.{LmsTree, lms_public}
-use Rattle.group_fields.specs.Cards.{spelling}
+use Rattle.sha2.specs.Sha256.{sha256}
+use Rattle.group_fields.specs.Cards.{Spells, spelling}
 use Rattle.group_fields.specs.declared.card.Card.{Card}
 use Rattle.kem_trait.specs.Streams.{Stream, words_of_seed}
 use Rattle.kem_trait.specs.declared.kem.Kem.{Ghosts}
@@ -13,6 +14,17 @@ use Rattle.kem_trait.specs.declared.kem.Kem.{Ghosts}
 pub record Origin : Type 0 where
   pub inviter : List ℕ
   pub random : List ℕ
+
+-- a tree, and the bytes of a card
+pub record KeysValue : Type 0 where
+  pub tree : LmsTree
+  pub card : List ℕ
+
+-- the bytes spell a card, whose id is the digest of them
+pub record IsShown (bytes id : List ℕ) : Type 0 where
+  pub value : Card
+  pub spells : Spells value bytes
+  pub has_id : id ≡ sha256 bytes
 
 -- the words that the key pair is drawn from: those of the derived seed
 abbrev pub pair_words : List ℕ → Stream
@@ -50,6 +62,11 @@ module _ {K P : Type 0} (kem : Ghosts K P) where
   -- the bytes that spell it
   unfoldable pub card_bytes : ℕ → Origin → Option (List ℕ)
   card_bytes height origin = option_map spelling (card_of height origin)
+
+  -- The keys are those of the member of a height: its tree, and the bytes of its card.
+  pub record AreKeysOf (height : ℕ) (origin : Origin) (keys : KeysValue) : Type 0 where
+    pub tree : keys.tree ≡ signing_tree height origin.random
+    pub card : card_bytes height origin ≡ Some keys.card
 
   -- The members of an encapsulation have cards at a height: it is 10 with set 1, and 5 or 10 with set 2.
   pub record HasCards (height : ℕ) : Type 0 where

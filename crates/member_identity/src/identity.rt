@@ -1,7 +1,9 @@
 ghost use Rattle.std.specs.Prelude.{◌≡◌, length, IsErrOf, IsSome, IfOk, Some, None};
-ghost use Rattle.lms_sign.specs.Trees.{IsHeight, lms_public};
-ghost use Rattle.member_identity.specs.Identity.{HasCards, card_bytes, secret_from, signing_tree};
+ghost use Rattle.group_fields.specs.Cards.{Spells};
+ghost use Rattle.lms_sign.specs.Trees.{IsHeight};
+ghost use Rattle.member_identity.specs.Identity.{AreKeysOf, HasCards, card_bytes, secret_from, signing_tree};
 
+use crate::keys::Keys;
 use group_fields::{Bytes, Card, MemberId, Memory, write_card};
 use hkdf_seal::kdf;
 use kem_trait::{Kem, KemRefusal, SeedWords};
@@ -53,33 +55,68 @@ impl<K: Kem> Identity<K> {
         })
     }
 
-    /// The bytes of the member's card. Its LMS public key (RFC 8554, section 5.3) is that of the member's tree of a height, which
-    /// has 2 ^ height leaves: a height of 10 with set 1, of 5 or 10 with set 2. Each call makes the whole tree anew.
+    // The bytes of the member's card, with the LMS public key (RFC 8554, section 5.3) of the member's tree.
+    fn card_with(&self, alloc: Global, tree: &Tree, height: u32) -> Result<Bytes, Memory>
+        requires height { HasCards ⟦<K as Kem>⟧ height }
+        requires tree { tree.now ≡ signing_tree height self.now.random }
+        ensures bytes { IfOk result (λ bytes. card_bytes ⟦<K as Kem>⟧ height self.now ≡ Some bytes) }
+        ensures spells { IfOk result (λ bytes. (value : Card) × Spells value bytes) }
+    {
+        let card = Card {
+            set: K::SET,
+            lms_public: tree.public(),
+            inviter: self.inviter,
+            kem_public: kem_public::<K>(alloc, &self.pair)?,
+        };
+        write_card(alloc, &card)
+    }
+
+    /// What the member signs with and shows: its tree of a height, which has 2 ^ height leaves, its card and its id. The
+    /// height is 10 with set 1, 5 or 10 with set 2. Each call makes the whole tree anew.
+    ///
+    /// `Memory` where an allocation was refused.
+    pub fn keys(&self, alloc: Global, height: u32) -> Result<Keys, Memory>
+        requires { HasCards ⟦<K as Kem>⟧ height }
+        ensures { IfOk result (AreKeysOf ⟦<K as Kem>⟧ height self.now) }
+    {
+        let tree = signing_tree(alloc, height, &self.random)?;
+        let card = self.card_with(alloc, &tree, height)?;
+        Ok(Keys::new(tree, card))
+    }
+
+    /// The bytes of the member's card at a height, as `keys` has it. Each call makes the whole tree anew.
     ///
     /// `Memory` where an allocation was refused.
     pub fn card(&self, alloc: Global, height: u32) -> Result<Bytes, Memory>
         requires { HasCards ⟦<K as Kem>⟧ height }
         ensures { IfOk result (λ bytes. card_bytes ⟦<K as Kem>⟧ height self.now ≡ Some bytes) }
     {
-        let card = Card {
-            set: K::SET,
-            lms_public: lms_public(alloc, height, &self.random)?,
-            inviter: self.inviter,
-            kem_public: kem_public::<K>(alloc, &self.pair)?,
-        };
-        write_card(alloc, &card)
+        let tree = signing_tree(alloc, height, &self.random)?;
+        self.card_with(alloc, &tree, height)
+    }
+
+    /// The member's key pair, which is that on its card.
+    pub fn into_pair(self) -> K::Pair
+        ensures { secret_from ⟦<K as Kem>⟧ self.random ≡ Some (K.secret_key result) }
+    {
+        let Identity {
+            inviter: _,
+            random: _,
+            pair,
+        } = self;
+        pair
     }
 }
 
-/// The LMS public key of the tree of a height that a member with these random bytes signs with.
-fn lms_public(alloc: Global, height: u32, random: &[u8; 32]) -> Result<[u8; 56], Memory>
+/// The tree of a height that a member with these random bytes signs with.
+fn signing_tree(alloc: Global, height: u32, random: &[u8; 32]) -> Result<Tree, Memory>
     requires { IsHeight height }
-    ensures { IfOk result (λ public. public ≡ lms_public (signing_tree height random.now)) }
+    ensures { IfOk result (λ tree. tree ≡ signing_tree height random.now) }
 {
     let seed = kdf(random, b"lms seed", b"");
     let long_id = kdf(random, b"lms id", b"");
     let id = long_id.first_chunk::<16>().unwrap();
-    Ok(Tree::make(alloc, height, id, &seed)?.public())
+    Tree::make(alloc, height, id, &seed)
 }
 
 /// The public key of a pair, in memory of its own.

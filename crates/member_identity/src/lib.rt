@@ -2,9 +2,11 @@
 #![tactic(auto)]
 
 mod identity;
+mod keys;
 mod laws;
 
 pub use identity::Identity;
+pub use keys::Keys;
 pub use laws::cards_have_room;
 
 #[cfg(test)]

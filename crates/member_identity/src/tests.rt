@@ -1,6 +1,7 @@
 //! Values of another program, which has the definitions by plain loops and inverses by Euclid's algorithm.
 use crate::Identity;
-use group_fields::{Digest as Id, MemberId, read_card};
+use group_fields::{Digest as Id, MemberId, MessageId, read_card};
+use lms_sign::verify;
 use ntru_prime::{Drill37, Sntrup761};
 use sha2::{Digest, Sha256};
 use std::alloc::Global;
@@ -40,6 +41,35 @@ fn large_id(alloc: Global) -> Result<String, Fail> {
     let member = Identity::<Sntrup761>::make(alloc, MemberId(Id([0; 32])), &RANDOM)?;
     let card = member.card(alloc, 10)?;
     Ok(hex::encode(alloc, Sha256::digest(card.as_slice()).as_slice())?)
+}
+
+/// The digits of the id of the smaller set's member at height 5 by its keys, and whether a signature with its last leaf is
+/// good under the key in its card.
+fn shown(alloc: Global) -> Result<(String, bool), Fail> {
+    let member = Identity::<Drill37>::make(alloc, MemberId(Id([0x1f; 32])), &RANDOM)?;
+    let keys = member.keys(alloc, 5)?;
+    let mut signature = vec![in alloc; 0; 2348]?;
+    keys.sign(
+        keys.leaf(32, MessageId(Id([5; 32]))),
+        signature.as_mut_slice(),
+    );
+    let good = verify(keys.card().lms_public(), &[5; 32], signature.as_slice());
+    Ok((hex::encode(alloc, keys.id().0.0.as_slice())?, good))
+}
+
+/// The digits of SHA-256 of the bytes with these digits.
+fn digest_of(alloc: Global, digits: &str) -> Result<String, Fail> {
+    let bytes = hex::decode(alloc, digits)?;
+    Ok(hex::encode(alloc, Sha256::digest(bytes.as_slice()).as_slice())?)
+}
+
+#[test]
+fn keys_are_made_once(rt: HostRuntime) -> Result<(), Fail> {
+    let (id, good) = shown(rt.alloc())?;
+    let wanted = digest_of(rt.alloc(), CARD)?;
+    assert_eq!(rt; id.as_str(), wanted.as_str());
+    assert!(rt; good);
+    Ok(())
 }
 
 #[test]
