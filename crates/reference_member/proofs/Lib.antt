@@ -18,3 +18,4 @@ pub mod OwnersThere
 pub mod OneNext
 pub mod OneRun
 pub mod CardsSpelled
+pub mod PartsByBook
