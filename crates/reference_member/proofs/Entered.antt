@@ -78,7 +78,7 @@ module _ {K P : Type 0} (kem : Ghosts K P) (rule : History → List Id) (M : Mem
         → Entered (owner kem rule M inviter public_key is_rule encapsulates)
 
   module _ (sound : Sound kem rule M) (takings : Takings) where
-    before : (O : Owner) → IsOwner kem rule after O → IsOwner kem rule M O
+    pub before : (O : Owner) → IsOwner kem rule after O → IsOwner kem rule M O
     before O is = record {
       primitives = is.primitives;
       rule_is = is.rule_is;
@@ -88,7 +88,7 @@ module _ {K P : Type 0} (kem : Ghosts K P) (rule : History → List Id) (M : Mem
       keys = λ card i. is.keys card (takings.more card i);
     }
 
-    by-owner : (O : Owner) → IsOwner kem rule after O → Entered O
+    pub by-owner : (O : Owner) → IsOwner kem rule after O → Entered O
     by-owner O is =
         let o = owns kem rule after O is in
         owner-form (primitives_of kem) rule (own_id kem M) (own_pair kem M)

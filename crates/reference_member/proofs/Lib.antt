@@ -19,3 +19,4 @@ pub mod OneNext
 pub mod OneRun
 pub mod CardsSpelled
 pub mod PartsByBook
+pub mod TakenEnters

@@ -4,3 +4,4 @@ pub mod Refusals
 pub mod Messages
 pub mod Accepted
 pub mod Told
+pub mod Entering

@@ -21,7 +21,10 @@ ghost use Rattle.reference_member.specs.Members.{HaveCollision, HaveOneEach, IsO
 ghost use Rattle.reference_member.specs.Members.{own_id, own_pair, public_key_by};
 ghost use Rattle.reference_member.specs.Messages.{MadeMessage};
 ghost use Rattle.reference_member.specs.Steps.{HasRecord, Step, record_of};
-ghost use Rattle.reference_member.specs.Refusals.{IsOut};
+ghost use Rattle.wire_codec.specs.Packets.{IsPacket, Packet};
+ghost use Rattle.causal_cast.specs.declared.verdict.Verdict.TheVariants as answers;
+ghost use Rattle.reference_member.specs.Entering.{EntersTaken};
+ghost use Rattle.reference_member.specs.Refusals.{IsOut, IsVerdict};
 ghost use Rattle.reference_member.specs.Accepted.{IsRunOf};
 
 use kem_trait::Kem;
@@ -87,3 +90,11 @@ pub fn parts_are_the_books<K: Kem>()
     the_book_carries_what_is_sent();
     the_book_stands_for_its_log();
 }
+
+/// What a packet of another leaves that nothing refuses, before it is answered: its message is the newest of the history,
+/// the log with its entry is lawful, and where its part opened the ack may take the operation's secret.
+pub fn ready_packets_enter<K: Kem>()
+    ensures { (rule : History → List Id) (steps : List Step) (M : Member) (made : List MadeMessage) (bytes : Bytes)
+        (packet : Packet) → IsRunOf ⟦<K as Kem>⟧ rule steps (Some M) made → IsPacket packet bytes
+        → IsVerdict ⟦<K as Kem>⟧ rule M bytes answers.Ready → EntersTaken ⟦<K as Kem>⟧ rule M packet }
+{}

@@ -7,6 +7,6 @@ mod refusal;
 
 pub use laws::{
     histories_are_those_of_logs, logs_are_lawful, owners_are_there, parts_are_the_books,
-    records_are_of_one_step, runs_are_one,
+    ready_packets_enter, records_are_of_one_step, runs_are_one,
 };
 pub use refusal::Refusal;
