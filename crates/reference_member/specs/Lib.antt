@@ -1,4 +1,5 @@
 pub mod Steps
+pub mod Inputs
 pub mod Members
 pub mod Refusals
 pub mod Messages
