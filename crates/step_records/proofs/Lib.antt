@@ -1,0 +1,2 @@
+pub mod CardBytes
+pub mod Written

@@ -1,0 +1,15 @@
+//! The first byte of a record, by what its step is.
+
+pub(crate) const INIT: u8 = 1;
+
+pub(crate) const CREATE: u8 = 2;
+
+pub(crate) const ADD: u8 = 3;
+
+pub(crate) const REMOVE: u8 = 4;
+
+pub(crate) const UPDATE: u8 = 5;
+
+pub(crate) const SEND: u8 = 6;
+
+pub(crate) const PACKET: u8 = 7;
