@@ -1,2 +1,5 @@
 pub mod CardBytes
 pub mod Written
+pub mod CardReads
+pub mod StepReads
+pub mod RecordLaws

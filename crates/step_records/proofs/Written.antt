@@ -1,5 +1,5 @@
 -- The record of an add, by the bytes of its card.
-use Rattle.std.proofs.Common.{◌≡◌, ℕ, ◌+◌, List, length, ap, sym, subst, arith}
+use Rattle.std.proofs.Common.{◌≡◌, ℕ, ◌+◌, length, ap, sym, subst, arith}
 use Rattle.std.proofs.lemmas.List.{length-append}
 use Rattle.group_fields.specs.Cards.{Spells, spelling}
 use Rattle.group_fields.specs.declared.card.Card.{Card}

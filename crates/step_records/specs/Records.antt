@@ -1,5 +1,5 @@
 -- The steps that records tell. docs/SPECIFICATION.md, "Journal records".
-use Rattle.std.specs.Prelude.{◌≡◌, List, ℕ}
+use Rattle.std.specs.Prelude.{◌≡◌, ℕ, List, Option, MatchOption}
 use Rattle.kem_trait.specs.declared.kem.Kem.{Ghosts}
 use Rattle.reference_member.specs.Steps as steps
 use Rattle.reference_member.specs.Steps.{HasRecord, Step, record_of}
@@ -30,3 +30,7 @@ module _ {K P : Type 0} (kem : Ghosts K P) where
   -- No step has these bytes as its record.
   abbrev pub IsNoRecord : List ℕ → Type 0
   IsNoRecord bytes = (step : Step) → IsRecordOf bytes step → ⊥
+
+  -- what was read tells the step, and nothing was where there is none
+  abbrev pub Tells : List ℕ → Option StepRecord → Type 0
+  Tells bytes read = MatchOption read (IsNoRecord bytes) (λ step. IsRecordOf bytes (step_of step))

@@ -1,12 +1,17 @@
 //! The cards of a record, one behind the other.
 
-ghost use Rattle.std.specs.Prelude.{◌≡◌, ◌++◌, ◌*◌, ◌≤◌, length, OnOk};
+ghost use Rattle.std.specs.Prelude.{◌≡◌, ◌++◌, ◌*◌, ◌≤◌, length, IfOk, MatchBool, MatchOption, OnOk};
 ghost use Rattle.group_fields.specs.Cards.{spelling};
 ghost use Rattle.group_fields.specs.declared.card.Card.{Card};
 ghost use Rattle.group_model.specs.Sets.{In};
 ghost use Rattle.reference_member.specs.Steps.{HasBytes, spellings};
+ghost use Rattle.step_records.specs.CardLists.{AreCards, AreNoCards, HasNoFront, IsFront, PutsCards};
 
-use group_fields::{Card, Memory, append_bytes, append_digest, append_known, append_u8};
+use group_fields::{
+    Card, CardView, Cards, Cursor, Memory, append_bytes, append_digest, append_known, append_u8,
+    take_card,
+};
+use std::alloc::Global;
 
 /// The fields of a card before its public key.
 const FIELDS_SIZE: usize = 91;
@@ -56,4 +61,43 @@ pub(crate) fn append_cards(bytes: &mut Vec<u8>, cards: &[Card]) -> Result<(), Me
     };
     append_card(bytes, card)?;
     append_cards(bytes, others)
+}
+
+// The card that bytes begin with, and the bytes behind it.
+fn split_card(bytes: &[u8]) -> Option<(CardView<'_>, &[u8])>
+    ensures { MatchOption result (HasNoFront bytes.now) (λ both. IsFront bytes.now both.0 both.1.now) }
+{
+    let mut cursor = Cursor::new(bytes);
+    let Ok(card) = take_card(&mut cursor, 1, 2) else {
+        return None;
+    };
+    let place = cursor.place();
+    Some((card, &bytes[place..]))
+}
+
+// Puts the cards behind others, where the bytes are so many. Otherwise the list is one to let go.
+fn put_cards(cards: &mut Cards, count: u8, bytes: &[u8]) -> Result<bool, Memory>
+    ensures { IfOk result (λ all.
+        MatchBool all (PutsCards count bytes.now cards.old cards.new) (AreNoCards count bytes.now)) }
+{
+    if count == 0 {
+        return Ok(bytes.is_empty());
+    }
+    let Some((card, others)) = split_card(bytes) else {
+        return Ok(false);
+    };
+    cards.push(&card)?;
+    put_cards(cards, count - 1, others)
+}
+
+// The cards of the bytes, where they are so many.
+pub(crate) fn read_cards(alloc: Global, count: u8, bytes: &[u8]) -> Result<Option<Cards>, Memory>
+    ensures { IfOk result (λ read. MatchOption read (AreNoCards count bytes.now) (AreCards count bytes.now)) }
+{
+    let mut cards = Cards::new(alloc);
+    if put_cards(&mut cards, count, bytes)? {
+        Ok(Some(cards))
+    } else {
+        Ok(None)
+    }
 }

@@ -3,8 +3,12 @@
 
 mod cards;
 mod kinds;
+mod laws;
+mod read;
 mod recorded;
 mod write;
 
+pub use laws::{records_are_read_back, records_fit_a_journal};
+pub use read::read_record;
 pub use recorded::{Recorded, StepRecord};
 pub use write::write_record;

@@ -1,4 +1,4 @@
-use Rattle.std.proofs.Common.{◌≡◌, List, ℕ, ◌++◌, length, subst, arith}
+use Rattle.std.proofs.Common.{List, ℕ, length, subst, arith}
 use Rattle.std.proofs.lemmas.Result.{on_ok_weaker}
 use Rattle.group_fields.specs.Cards.{spelling}
 use Rattle.group_fields.specs.LayoutWrites.{Appends}

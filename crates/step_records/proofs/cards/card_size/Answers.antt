@@ -1,4 +1,4 @@
-use Rattle.std.proofs.Common.{◌∙◌, ap, sym, length, arith}
+use Rattle.std.proofs.Common.{arith}
 use Rattle.step_records.proofs.CardBytes.{card-size, key-at-most}
 use Rattle.step_records.proofs.cards.card_size.Goals as goal
 
