@@ -6,6 +6,8 @@ mod kinds;
 mod laws;
 mod read;
 mod recorded;
+#[cfg(test)]
+mod tests;
 mod write;
 
 pub use laws::{records_are_read_back, records_fit_a_journal};

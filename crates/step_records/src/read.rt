@@ -13,8 +13,8 @@ use std::alloc::Global;
 const MOST_CARDS: u8 = 31;
 
 /// The step that bytes are the record of, for a member of the set of the key encapsulation, or `None` where they are no
-/// step's. Cards, texts and packets are lent out of the bytes, but for the cards of a create, which take memory; `Memory`
-/// where that is refused.
+/// step's. The card of an add, a text and a packet are lent out of the bytes; the cards of a create take memory, and
+/// `Memory` says that it was refused.
 pub fn read_record<K: Kem>(alloc: Global, bytes: &[u8]) -> Result<Option<StepRecord<'_>>, Memory>
     ensures { IfOk result (λ read. MatchOption read (IsNoRecord ⟦<K as Kem>⟧ bytes.now)
         (λ step. IsRecordOf ⟦<K as Kem>⟧ bytes.now (step_of step))) }
