@@ -5,7 +5,7 @@ use Rattle.step_records.proofs.read.read_create.Goals as goal
 pub returns-then-count-gt-MOST_CARDS : goal.returns-then-count-gt-MOST_CARDS
 returns-then-count-gt-MOST_CARDS g c =
     too-many g.K.Kem c.args.random.now c.args.bytes.now c.in-Some.rest.now c.in-Some.count.now (omega arith) c.in-Some.ensures.cases.0
-    c.if-count-gt-MOST_CARDS.true
+    (omega arith)
 
 pub returns-in_default-2 : goal.returns-in_default-2
 returns-in_default-2 g c =
