@@ -1,14 +1,18 @@
 -- The spellings of cards: how many bytes they have, and that they were appended.
-use Rattle.std.proofs.Common.{◌≡◌, ◌⊎◌, ℕ, ◌+◌, ◌-◌, ◌*◌, ◌≤◌, ◌==◌, ◌||◌, IsTrue, List, [], ◌∷◌, ◌++◌, length, get_or, take, drop, ap, sym, subst, ◌∙◌, inl, inr, arith}
+use Rattle.std.proofs.Common.{◌≡◌, ◌⊎◌, ℕ, ◌+◌, ◌-◌, ◌*◌, ◌≤◌, ◌==◌, ◌||◌, IsTrue, List, [], ◌∷◌, ◌++◌, length, get_or, take, drop, ap, sym, subst, ◌∙◌, inl, inr, arith, refl, ◌<◌, ◌^◌, Bool, false, ◌↔◌}
+use Rattle.std.specs.Int.{w8, to_be_bytes}
 use Rattle.std.proofs.lemmas.Bool.Decides.{nat_tests}
 use Rattle.std.proofs.lemmas.List.{length-append, take_all}
 use Rattle.group_fields.specs.Cards as card_words
 use Rattle.group_fields.specs.Cards.{HasSpelling, Spells, card_of_sets, key_size, lms_public, spelling}
 use Rattle.group_fields.specs.LayoutWrites.{Appends}
-use Rattle.group_fields.specs.Layouts.{bytes_of, digest, known, number}
+use Rattle.group_fields.specs.Layouts as layouts
+use Rattle.group_fields.specs.Layouts.{Layout, bytes_of, digest, known, number}
 use Rattle.group_fields.specs.declared.card.Card.{Card}
-use Rattle.group_fields.proofs.CardBytes.{spelled_has, spelling_is}
+use Rattle.group_fields.proofs.CardBytes.{fields_appended, spelled, spelled_has, spelling_is}
+use Rattle.group_fields.proofs.WriteSteps.{bytes_spelled, digest_spelled, known_spelled, u8_spelled}
 use Rattle.group_model.specs.Sets.{Bytes, In, here, there}
+use Rattle.group_model.proofs.ListFacts.{In-cases}
 use Rattle.reference_member.specs.Steps.{HasBytes, spellings}
 
 -- ---- how many bytes they have
@@ -89,6 +93,30 @@ cards-at-most (card ∷ cards) all =
     let others = cards-at-most cards (λ c i. all c (there i)) in
     omega (arith, one, others, length-append (spelling card) (spellings cards))
 
+-- ---- which cards bytes spell
+
+append-one : {A : Type 0} (part : Layout A) (a : A) (old back : Bytes) → layouts.Spells part back a → Appends part a old (old ++ back)
+append-one part a old back is = record { back = back; whole = refl; spelled = is }
+
+pub has-bytes : (card : Card) → HasSpelling card → card.set < 2 ^ 8 → length card.lms_public ≡ 56 → length card.inviter.0.0 ≡ 32
+    → HasBytes card
+has-bytes card has small key inviter =
+    let tag : Bytes = [] ++ (0x43 ∷ []) in
+    let version : Bytes = tag ++ (1 ∷ []) in
+    let set : Bytes = version ++ to_be_bytes w8 card.set in
+    let lms : Bytes = set ++ card.lms_public in
+    let id : Bytes = lms ++ card.inviter.0.0 in
+    let whole : Bytes = id ++ card.kem_public in
+    let all = fields_appended card [] tag version set lms id whole has key
+    (append-one (known (0x43 ∷ [])) tt [] (0x43 ∷ []) (known_spelled (0x43 ∷ [])))
+    (append-one (known (1 ∷ [])) tt tag (1 ∷ []) (known_spelled (1 ∷ [])))
+    (λ least greatest between. append-one (number w8 least greatest) card.set version (to_be_bytes w8 card.set)
+    (u8_spelled least greatest card.set small between)) refl
+    (append-one digest card.inviter.0 lms card.inviter.0.0 (digest_spelled card.inviter.0 inviter))
+    (append-one (bytes_of (length card.kem_public)) card.kem_public id card.kem_public (bytes_spelled card.kem_public)) in
+    let is = spelled card whole all in
+    subst (λ (b : Bytes). Spells card b) (spelling_is card whole is) is
+
 -- ---- that they were appended
 
 pub card-appended : (card : Card) (old new : Bytes) → Appends card_words.card card old new → new ≡ old ++ spelling card
@@ -110,3 +138,24 @@ first_in (card ∷ others) first some is = subst (λ (c : Card). In c (card ∷ 
 pub rest_in : (cards : List Card) (card : Card) → In card (rest_of cards) → In card cards
 rest_in [] card i = i
 rest_in (first ∷ others) card i = there (subst (In card) (sym (rest_is first others)) i)
+
+-- ---- whether all have bytes
+
+abbrev pub HaveBytes : List Card → Type 0
+HaveBytes cards = (card : Card) → In card cards → HasBytes card
+
+pub first-and-others : (cards : List Card) (first : Card) (b : Bool) → 1 ≤ length cards → first ≡ get_or cards 0 first → HasBytes first
+    → IsTrue b ↔ HaveBytes (rest_of cards) → IsTrue b ↔ HaveBytes cards
+first-and-others [] first b some is has others = absurd (omega (arith, some))
+first-and-others (card ∷ cards) first b some is has others =
+    let same : rest_of (card ∷ cards) ≡ cards = sym (rest_is card cards) in (
+      λ yes c i. elim (In-cases i) [
+        | inl e ↦ subst HasBytes (is ∙ sym e) has
+        | inr j ↦ others.0 yes c (subst (λ (l : List Card). In c l) (sym same) j)
+      ],
+      λ all. others.1 (λ c i. all c (there (subst (λ (l : List Card). In c l) same i))),
+    )
+
+pub first-alone : (cards : List Card) (first : Card) (b : Bool) → 1 ≤ length cards → first ≡ get_or cards 0 first → b ≡ false
+    → IsTrue b ↔ HasBytes first → IsTrue b ↔ HaveBytes cards
+first-alone cards first b some is wrong says = (λ yes. absurd cc, λ all. says.1 (all first (first_in cards first some is)))

@@ -94,10 +94,10 @@ module _ {K P : Type 0} (kem : Ghosts K P) where
   -- ---- `init`
 
   pub made : (bytes rest ids : Bytes) (set byte height : ℕ) (inviter random : Bytes) → length inviter ≡ 32 → length random ≡ 32
-      → bytes ≡ set ∷ rest → rest ≡ byte ∷ ids → set ≡ kem.SET → HasCards kem byte → height ≡ byte → inviter ++ random ≡ ids
+      → bytes ≡ set ∷ rest → rest ≡ byte ∷ ids → set ≡ kem.SET → HasCards kem height → height ≡ byte → inviter ++ random ≡ ids
       → IsRecordOf kem (1 ∷ bytes) (record { input = Init inviter height; random = random })
   made bytes rest ids set byte height inviter random long_id long first second of_set has same both = record {
-    has_record = record { random = long; input = (long_id, subst (λ (n : ℕ). HasCards kem n) (sym same) has) };
+    has_record = record { random = long; input = (long_id, has) };
     is = rw (same, both, first, second, of_set) refl;
   }
 

@@ -2,6 +2,7 @@
 #![tactic(auto)]
 
 mod cards;
+mod fits;
 mod kinds;
 mod laws;
 mod read;
@@ -10,6 +11,7 @@ mod recorded;
 mod tests;
 mod write;
 
+pub use fits::{fits_record, lent_cards_are_spelled};
 pub use laws::{records_are_read_back, records_fit_a_journal};
 pub use read::read_record;
 pub use recorded::{Recorded, StepRecord};

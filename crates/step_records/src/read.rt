@@ -1,16 +1,13 @@
-ghost use Rattle.std.specs.Prelude.{◌≡◌, ◌≢◌, ◌↔◌, ◌++◌, ◌∷◌, length, IfOk, IfSome, IsTrue, MatchOption};
-ghost use Rattle.member_identity.specs.Identity.{HasCards};
+ghost use Rattle.std.specs.Prelude.{◌≡◌, ◌≢◌, ◌++◌, ◌∷◌, length, IfOk, IfSome, MatchOption};
 ghost use Rattle.step_records.specs.Records.{IsNoRecord, IsRecordOf, Tells, step_of};
 
 use crate::cards::read_cards;
-use crate::kinds::{ADD, CREATE, INIT, PACKET, REMOVE, SEND, UPDATE};
+use crate::fits::has_cards;
+use crate::kinds::{ADD, CREATE, INIT, MOST_CARDS, PACKET, REMOVE, SEND, UPDATE};
 use crate::recorded::{Recorded, StepRecord};
 use group_fields::{Digest, MemberId, Memory, read_card};
 use kem_trait::Kem;
 use std::alloc::Global;
-
-/// The most cards of a create.
-const MOST_CARDS: u8 = 31;
 
 /// The step that bytes are the record of, for a member of the set of the key encapsulation, or `None` where they are no
 /// step's. The card of an add, a text and a packet are lent out of the bytes; the cards of a create take memory, and
@@ -31,13 +28,6 @@ pub fn read_record<K: Kem>(alloc: Global, bytes: &[u8]) -> Result<Option<StepRec
     read_kind::<K>(alloc, *kind, random, rest)
 }
 
-// Whether members of the set have cards at the height.
-fn has_cards<K: Kem>(height: u8) -> bool
-    ensures { IsTrue result ↔ HasCards ⟦<K as Kem>⟧ height }
-{
-    height == 10 || (K::SET == 2 && height == 5)
-}
-
 // Two strings of 32 bytes, where the bytes are as many.
 fn split_ids(bytes: &[u8]) -> Option<(&[u8; 32], &[u8; 32])>
     ensures parts { MatchOption result (length bytes.now ≢ 64) (λ both. both.0.now ++ both.1.now ≡ bytes.now) }
@@ -54,13 +44,14 @@ fn read_init<K: Kem>(bytes: &[u8]) -> Option<StepRecord<'_>>
 {
     let (set, rest) = bytes.split_first()?;
     let (height, ids) = rest.split_first()?;
-    if *set != K::SET || !has_cards::<K>(*height) {
+    let height = u32::from(*height);
+    if *set != K::SET || !has_cards::<K>(height) {
         return None;
     }
     let (inviter, random) = split_ids(ids)?;
     Some(StepRecord {
         random: *random,
-        input: Recorded::Init(MemberId(Digest(*inviter)), u32::from(*height)),
+        input: Recorded::Init(MemberId(Digest(*inviter)), height),
     })
 }
 

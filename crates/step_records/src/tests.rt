@@ -1,7 +1,7 @@
 //! Records by hand, byte for byte.
 
-use crate::{Recorded, StepRecord, read_record, write_record};
-use group_fields::{Digest, MemberId};
+use crate::{Recorded, StepRecord, fits_record, read_record, write_record};
+use group_fields::{Cards, Digest, MemberId, read_card};
 use kem_trait::Kem;
 use ntru_prime::{Drill37, Sntrup761};
 use reference_member::Input;
@@ -60,8 +60,25 @@ fn read_and_written<K: Kem>(alloc: Global, bytes: &[u8]) -> Result<Option<Summar
         return Ok(None);
     };
     let written = write_record::<K>(alloc, &step.input.input(), &step.random)?;
-    let same = written.as_slice() == bytes && step.random == [7; 32];
+    let fits = fits_record::<K>(&step.input.input());
+    let same = fits && written.as_slice() == bytes && step.random == [7; 32];
     Ok(if same { Some(summary(&step)) } else { None })
+}
+
+// Whether an `init` with a height fits into a record.
+fn height_fits<K: Kem>(height: u32) -> bool {
+    fits_record::<K>(&Input::Init(MemberId(Digest([1; 32])), height))
+}
+
+// Whether a create of so many cards fits into a record.
+fn cards_fit(alloc: Global, count: u8) -> Result<bool, Fail> {
+    let bytes = hex::decode(alloc, CARD)?;
+    let card = read_card(bytes.as_slice())?;
+    let mut cards = Cards::new(alloc);
+    for _ in 0..count {
+        cards.push(&card)?;
+    }
+    Ok(fits_record::<Drill37>(&Input::Create(&cards)))
 }
 
 fn is_read<K: Kem>(alloc: Global, bytes: &[u8]) -> Result<bool, Fail> {
@@ -157,6 +174,23 @@ fn other_bytes_are_no_records(rt: HostRuntime) -> Result<(), Fail> {
     for parts in [["01020a", NOBODY, NOBODY], ["010105", NOBODY, NOBODY]] {
         let bytes = joined(rt.alloc(), &parts, 0)?;
         assert!(rt; !is_read::<Sntrup761>(rt.alloc(), bytes.as_slice())?);
+    }
+    Ok(())
+}
+
+#[test]
+fn what_fits_is_told(rt: HostRuntime) -> Result<(), Fail> {
+    for (height, small, large) in [
+        (10, true, true),
+        (5, true, false),
+        (6, false, false),
+        (266, false, false),
+    ] {
+        assert_eq!(rt; height_fits::<Drill37>(height), small);
+        assert_eq!(rt; height_fits::<Sntrup761>(height), large);
+    }
+    for (count, fits) in [(0, true), (31, true), (32, false)] {
+        assert_eq!(rt; cards_fit(rt.alloc(), count)?, fits);
     }
     Ok(())
 }
