@@ -1,4 +1,4 @@
--- The spellings of cards: how many bytes they have, and that they were appended.
+-- The spellings of cards: how many bytes they have, which cards have one, and that they were appended.
 use Rattle.std.proofs.Common.{◌≡◌, ◌⊎◌, ℕ, ◌+◌, ◌-◌, ◌*◌, ◌≤◌, ◌==◌, ◌||◌, IsTrue, List, [], ◌∷◌, ◌++◌, length, get_or, take, drop, ap, sym, subst, ◌∙◌, inl, inr, arith, refl, ◌<◌, ◌^◌, Bool, false, ◌↔◌}
 use Rattle.std.specs.Int.{w8, to_be_bytes}
 use Rattle.std.proofs.lemmas.Bool.Decides.{nat_tests}

@@ -36,14 +36,15 @@ pub fn fits_record<K: Kem>(input: &Input<'_>) -> bool
     }
 }
 
-/// A card that is lent out of bytes is one that bytes spell, so it fits into a record. Does nothing: the contract says it.
+/// A card that is lent out of bytes is one that bytes spell, so it fits into a record. Does nothing; its contract is
+/// the law.
 pub fn lent_cards_are_spelled(card: &CardView<'_>)
     ensures { HasBytes card.now }
 {
     let _bytes = card.bytes();
 }
 
-// Does nothing.
+// An id has 32 bytes, as its type says. Does nothing.
 fn ids_have_32_bytes(id: &MemberId)
     ensures { length id.now.0.0 ≡ 32 }
 {

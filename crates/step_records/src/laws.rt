@@ -15,8 +15,8 @@ pub fn records_are_read_back<K: Kem>()
         → Tells ⟦<K as Kem>⟧ (record_of K.SET step) read → option_map step_of read ≡ Some step }
 {}
 
-/// A journal takes each record: it isn't empty, and has at most 8,388,641 bytes where its text or its packet has at most
-/// 8,388,608.
+/// A journal takes each record: it isn't empty, and has at most 8,388,641 bytes where its text or its packet has at
+/// most 8,388,608.
 pub fn records_fit_a_journal<K: Kem>()
     ensures not_empty { (step : Step) → 1 ≤ length (record_of K.SET step) }
     ensures not_long { (step : Step) → HasRecord ⟦<K as Kem>⟧ step → HasShortTail step.input

@@ -26,7 +26,7 @@ pub enum Recorded<'a> {
 }
 
 impl Recorded<'_> {
-    /// The same, lent out. Without memory being taken.
+    /// The same, lent out. No memory is taken; the card of an add is read again.
     pub fn input(&self) -> Input<'_>
         ensures { input_of result ≡ recorded_input self.now }
     {
