@@ -1,0 +1,7 @@
+//! What a message of any kind makes of a member's book, and what the member learns of it: one call for what it takes, one
+//! for the add that brings it in, one for what it makes, and the two steps of its own ack.
+#![tactic(auto)]
+
+mod taking;
+
+pub use taking::{join_by, take_packet};
