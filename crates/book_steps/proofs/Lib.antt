@@ -1,1 +1,2 @@
+mod Makes
 mod Takes

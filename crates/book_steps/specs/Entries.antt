@@ -5,7 +5,7 @@ use Rattle.kem_trait.specs.declared.kem.Kem.{Ghosts}
 use Rattle.group_model.specs.Sets.{Bytes}
 use Rattle.group_model.specs.Logs.{LogEntry, Joined, Took, Made, header_of, rows_of}
 use Rattle.group_model.specs.Membership.{ids_named}
-use Rattle.group_model.specs.Messages.{History}
+use Rattle.group_model.specs.Messages.{Kind, Create, Update, Remove, Add, Ack, AddAck, Text, History}
 use Rattle.group_model.specs.Settings.{Owner}
 use Rattle.group_model.specs.Validity.{IsOperation}
 use Rattle.member_book.specs.Books.{BookState, welcomed}
@@ -20,6 +20,16 @@ abbrev pub opens_to : Owner → LogEntry → BookState → Option Bytes
 opens_to O (Joined p) b = part_opens O p (welcomed O.primitives p.rows b)
 opens_to O (Took p) b = part_opens O p b
 opens_to O (Made p t) b = None
+
+-- an own message of the kind steps its sender's ratchet as soon as its parts are sealed: any but an ack and a text
+abbrev pub StepsAsMade : Kind → Type 0
+StepsAsMade (Create members) = Unit {0}
+StepsAsMade Update = Unit {0}
+StepsAsMade (Remove y) = Unit {0}
+StepsAsMade (Add y) = Unit {0}
+StepsAsMade (Ack o took) = ⊥
+StepsAsMade (AddAck o) = Unit {0}
+StepsAsMade Text = ⊥
 
 module _ {K P : Type 0} (kem : Ghosts K P) (O : Owner) (h : History) (e : LogEntry) (state : BookState) where
   -- The message of the entry is taken, over the history before it: the book that is held then is the one after the
