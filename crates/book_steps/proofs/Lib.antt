@@ -1,2 +1,4 @@
 mod Makes
+mod OwnAcks
 mod Takes
+mod TextEntries

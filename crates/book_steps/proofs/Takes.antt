@@ -48,13 +48,13 @@ id-other y z differs = elim (test (bytes_eq y z)) [
   | no_is e ↦ e
 ]
 
-took-same : (p q : Packet) → ◌≡◌ {A = LogEntry} (Took p) (Took q) → p ≡ q
+pub took-same : (p q : Packet) → ◌≡◌ {A = LogEntry} (Took p) (Took q) → p ≡ q
 took-same p q e = cc
 
 joined-same : (p q : Packet) → ◌≡◌ {A = LogEntry} (Joined p) (Joined q) → p ≡ q
 joined-same p q e = cc
 
-took-joined : (p q : Packet) → ◌≡◌ {A = LogEntry} (Took p) (Joined q) → ⊥
+pub took-joined : (p q : Packet) → ◌≡◌ {A = LogEntry} (Took p) (Joined q) → ⊥
 took-joined p q e = cc
 
 joined-took : (p q : Packet) → ◌≡◌ {A = LogEntry} (Joined p) (Took q) → ⊥

@@ -25,9 +25,9 @@ use member_view::{Act, Membership, act_of, is_seeded};
 use secret_book::Book;
 use std::alloc::Global;
 
-/// Takes an own create, update, remove, add or add-ack, over the history before it, once its parts are sealed: an add adds
-/// somebody else. An own message has no part for its sender. The seed is that of an operation that sends one; an add and
-/// an add-ack don't read it. Answers the own update secret, `None` where the own ratchet isn't known.
+/// Takes an own create, update, remove, add or add-ack, over the history before it, once its parts are sealed: an add
+/// adds somebody else. An own message has no part for its sender. The seed is that of an operation that sends one; an
+/// add and an add-ack don't read it. Answers the own update secret, `None` where the own ratchet isn't known.
 ///
 /// The history is that before the message; ids that the message names and the history doesn't have the next places, in
 /// their order, and the book has met them. With `Memory`, where an allocation was refused, the book may have moved and
@@ -56,8 +56,8 @@ pub fn take_own<K: Kem, G: Membership>(
     requires own { me < length book.old.places }
     requires sender { In (message_of header.now).sender (ids_named (message_of header.now ∷ history_of history.now)) }
 
-    // Of each book of the model that the book stands for with the parts of the packet sealed, whose owner has the place,
-    // and each packet of this message that is made from bytes with this seed.
+    // Of each book of the model that the book stands for with the parts of the packet sealed, whose owner has the
+    // place, and each packet of this message that is made from bytes with this seed.
     ensures { IfOk result (λ learned. (O : Owner) (state : BookState) (p : Packet) (t : Given) → O.rule ≡ G.rule
         → IsPlace (ids_named (message_of header.now ∷ history_of history.now)) me O.id
         → HeldStands ⟦<K as Kem>⟧ O (ids_named (message_of header.now ∷ history_of history.now)) (held book.old)

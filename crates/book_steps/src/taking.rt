@@ -98,12 +98,12 @@ pub fn take_packet<K: Kem, G: Membership>(
     }
 }
 
-/// Joins by the add of this member: the senders of the history that it hands on are forgotten, the part that is for this
-/// member is opened, and the ratchet in it is the sender's. `took` tells whether the part opened, `learned` is the update
-/// secret of the add.
+/// Joins by the add of this member: the senders of the history that it hands on are forgotten, the part that is for
+/// this member is opened, and the ratchet in it is the sender's. `took` tells whether the part opened, `learned` is the
+/// update secret of the add.
 ///
-/// The history is the one that the add hands on; this member has the next place behind those that it names, and the book
-/// has met it. With `Memory`, where an allocation was refused, the book may have moved and is only to be closed.
+/// The history is the one that the add hands on; this member has the next place behind those that it names, and the
+/// book has met it. With `Memory`, where an allocation was refused, the book may have moved and is only to be closed.
 pub fn join_by<K: Kem>(
     alloc: Global,
     book: &mut Book<K>,
