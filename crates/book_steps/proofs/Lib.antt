@@ -1,4 +1,5 @@
 mod Makes
 mod OwnAcks
 mod Takes
+mod TestFacts
 mod TextEntries

@@ -11,3 +11,6 @@ pub use laws::{own_acks_are_entries, texts_are_entries};
 pub use making::take_own;
 pub use own_acks::{own_secret, step_own_ack};
 pub use taking::{join_by, take_packet};
+
+#[cfg(test)]
+mod tests;
