@@ -6,3 +6,6 @@ mod laws;
 
 pub use header::{next_header, with_body};
 pub use laws::next_headers_are_the_models;
+
+#[cfg(test)]
+mod tests;
