@@ -1,17 +1,17 @@
 //! Laws of the reference member. Each function does nothing; its contract is the law.
 
-ghost use Rattle.std.specs.Prelude.{◌≡◌, ◌⊎◌, ◌++◌, true, List, map, None, Option, Some};
+ghost use Rattle.std.specs.Prelude.{◌≡◌, ◌⊎◌, ◌++◌, ◌≤◌, true, List, map, None, Option, Some, length};
 ghost use Rattle.group_fields.specs.Cards.{card_id};
 ghost use Rattle.group_fields.specs.declared.card.Card.{Card};
 ghost use Rattle.group_model.specs.Sets.{Bytes, Id, In};
-ghost use Rattle.group_model.specs.Messages.{Ack, History, Kind};
+ghost use Rattle.group_model.specs.Messages.{Ack, AreHeads, History, Kind};
 ghost use Rattle.group_model.specs.Packets.{Given};
 ghost use Rattle.group_model.specs.Parts.{part_sent, parts_of};
 ghost use Rattle.group_keys.specs.Primitives.{primitives_of};
 ghost use Rattle.member_book.specs.BooksAfter.{part_by, payload_of};
 ghost use Rattle.member_book.specs.Laws.{book_of};
 ghost use Rattle.member_book.specs.Standing.{MayStill};
-ghost use Rattle.group_model.specs.Membership.{IsMembershipRule};
+ghost use Rattle.group_model.specs.Membership.{IsMembershipRule, ids_named};
 ghost use Rattle.group_model.specs.Logs.{hist};
 ghost use Rattle.group_model.specs.Settings.{Owner};
 ghost use Rattle.group_model.specs.LawfulLogs.{IsLawfulLog};
@@ -62,6 +62,14 @@ pub fn owners_are_there<K: Kem>()
     ensures after_steps { (rule : History → List Id) → IsMembershipRule rule → (steps : List Step) (M : Member)
         (made : List MadeMessage) → IsRunOf ⟦<K as Kem>⟧ rule steps (Some M) made
         → ((O : Owner) × IsOwner ⟦<K as Kem>⟧ rule M O) ⊎ HaveCollision (cards_of M.rows) }
+{}
+
+/// The history of a member after its steps has at most as many heads as it names members: of one sender each message has
+/// the older ones in its past, and each sender is named.
+pub fn heads_are_few<K: Kem>()
+    ensures { (rule : History → List Id) (steps : List Step) (M : Member) (made : List MadeMessage) (O : Owner)
+        → IsRunOf ⟦<K as Kem>⟧ rule steps (Some M) made → IsOwner ⟦<K as Kem>⟧ rule M O → (ids : List Id)
+        → AreHeads (known M) ids → length ids ≤ length (ids_named (known M)) }
 {}
 
 /// Steps have one member and one list of messages.
