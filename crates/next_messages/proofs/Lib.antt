@@ -1,1 +1,2 @@
 pub mod HeaderFacts
+pub mod Addressed

@@ -40,8 +40,8 @@ fn next_seq(history: &History, me: &MemberId) -> u32
 }
 
 /// The header of the member's next message of a kind, for a target that suits it, behind all rows of the history, with
-/// 32 zero bytes as its body's digest. Without rows its group is a new one, by the step's random bytes. `with_body` puts
-/// the digest of the body into it.
+/// 32 zero bytes as its body's digest. Without rows its group is a new one, by the step's random bytes. `with_body`
+/// puts the digest of the body into it.
 ///
 /// There is room for one row more. None only where the history has more than 32 heads, which no header has as its
 /// predecessors. `Memory` where an allocation was refused.

@@ -1,5 +1,7 @@
 //! Headers over small histories of updates, worked out by hand.
 
+mod due;
+
 use crate::*;
 use causal_history::History;
 use group_fields::{
