@@ -1,17 +1,18 @@
 -- Whom a message is due to whose body is still to be made.
-use Rattle.std.proofs.Common.{◌≡◌, ◌↔◌, ℕ, Bool, List, [], ◌∷◌, refl, sym, subst, inl}
+use Rattle.std.proofs.Common.{◌≡◌, ◌↔◌, ℕ, Bool, false, List, [], ◌∷◌, refl, sym, subst, inl}
 use Rattle.group_fields.specs.declared.header.Header.{Header}
 use Rattle.group_fields.specs.declared.header.Kind.{Kind as HeaderKind}
 use Rattle.group_fields.specs.declared.header.Kind.TheVariants as kinds
 use Rattle.group_fields.specs.declared.header.Target.{Target}
 use Rattle.group_model.specs.Sets.{Id, In}
-use Rattle.group_model.specs.Messages.{Message, History, Stands, IsHistory, AreHeads}
-use Rattle.group_model.specs.Membership.{IsAddressee, IsMembershipRule, ids_named}
-use Rattle.group_model.specs.Marks.{IsCrowd}
+use Rattle.group_model.specs.Messages.{Kind, Create, Update, Remove, Add, Ack, AddAck, Text, Message, History, Stands, IsHistory, AreHeads}
+use Rattle.group_model.specs.Membership.{IsAddressee, IsMembershipRule, IsSeeded, ids_named}
+use Rattle.group_model.specs.Marks.{IsCrowd, IsPlace}
 use Rattle.group_model.proofs.Addressees.{addressee_moves}
+use Rattle.group_model.proofs.ListFacts.{test, yes_is, no_is}
 use Rattle.group_model.proofs.Pasts.{stands}
 use Rattle.group_model.proofs.RemoveWins.{Named-ids_named}
-use Rattle.group_messages.specs.Messages.{kind_by, message_of}
+use Rattle.group_messages.specs.Messages.{kind_by, kind_of, message_of}
 use Rattle.causal_history.specs.Rows.{Row, history_of}
 use Rattle.causal_history.proofs.RowFacts.{history-none}
 use Rattle.member_view.specs.Crowds.{StandsWell}
@@ -46,6 +47,7 @@ pub due : (rule : History → List Id) → IsMembershipRule rule
     (λ y. IsAddressee rule (history_of rows) (message_of header) (message_of header).kind y)
     → IsDueTo rule rows header bits
 due rule is_rule serve rows header bits history stand new crowd = record {
+  new = new;
   crowd = λ digest fresh.
       let h = history_of rows in
       let m = message_of header in
@@ -56,6 +58,27 @@ due rule is_rule serve rows header bits history stand new crowd = record {
       (λ y a. addressee_moves rule is_rule h m n.id n.body g k m.kind refl y ((serve rule h m g y).1 a))
       (λ y a. (serve rule h m g y).0 (addressee_moves rule is_rule h n m.id m.body k g m.kind refl y a));
 }
+
+-- who makes a message that sends a seed has no part of it
+not-self : (rule : History → List Id) (h : History) (m : Message) (k : Kind) → IsSeeded k → (y : Id) → m.sender ≡ y
+    → IsAddressee rule h m k y → ⊥
+not-self rule h m (Create members) s y e a = a.other (sym e)
+not-self rule h m Update s y e a = a.other (sym e)
+not-self rule h m (Remove z) s y e a = a.other (sym e)
+not-self rule h m (Add z) s y e a = s
+not-self rule h m (Ack i took) s y e a = s
+not-self rule h m (AddAck i) s y e a = s
+not-self rule h m Text s y e a = s
+
+pub maker-left_out : (rule : History → List Id) (rows : List Row) (header : Header) (bits : ℕ → Bool) → IsDueTo rule rows header bits
+    → IsSeeded (kind_of header) → (p : ℕ) → IsPlace (ids_named (message_of header ∷ history_of rows)) p header.sender.0.0 → bits p ≡ false
+maker-left_out rule rows header bits due seeded p at = elim (test (bits p)) [
+  | no_is e ↦ e
+  | yes_is e ↦
+      let m = message_of header in
+      absurd (not-self rule (m ∷ history_of rows) m (kind_of header) seeded m.sender refl
+      (((due.crowd header.body due.new).each p m.sender at).0 e))
+]
 
 -- who is addressed has a place
 pub addressed-placed : (rule : History → List Id) → IsMembershipRule rule → (h : History) (m : Message) (y : Id)

@@ -1,2 +1,5 @@
 pub mod HeaderFacts
 pub mod Addressed
+pub mod Parts
+pub mod Drawing
+pub mod Seeded

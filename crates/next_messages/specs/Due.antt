@@ -17,8 +17,9 @@ message_with header digest = message_of (record header { body = digest })
 abbrev pub IsNew : List Row → Message → Type 0
 IsNew rows m = Stands (history_of rows) m.id → ⊥
 
--- The bits are the places of those whom a message of the header sends a part to, behind these rows, whatever digest its
--- body gets.
+-- No row has the id of the header as it is, and the bits are the places of those whom its message sends a part to,
+-- behind these rows, whatever digest its body gets.
 pub record IsDueTo (rule : History → List Id) (rows : List Row) (header : Header) (bits : ℕ → Bool) : Type 0 where
+  pub new : IsNew rows (message_of header)
   pub crowd : (digest : Digest) → let m = message_with header digest in IsNew rows m
       → IsCrowd (ids_named (m ∷ history_of rows)) bits (λ y. IsAddressee rule (m ∷ history_of rows) m m.kind y)

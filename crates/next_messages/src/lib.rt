@@ -1,13 +1,18 @@
-//! The messages that a member makes next: their headers, and whom they are due to.
+//! The messages that a member makes next: their headers, whom they are due to, and their bodies.
 #![tactic(auto)]
 
 mod addressees;
+mod bodies;
 mod header;
 mod laws;
 
 pub use addressees::{addressees_of, receivers_of};
+pub use bodies::next_seeded;
 pub use header::{next_header, with_body};
-pub use laws::{due_receivers_are_addressees, next_headers_are_the_models};
+pub use laws::{
+    due_receivers_are_addressees, made_parts_are_the_next, makers_are_left_out,
+    next_headers_are_the_models, seeded_bodies_are_the_next,
+};
 
 #[cfg(test)]
 mod tests;

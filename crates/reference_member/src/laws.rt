@@ -64,8 +64,8 @@ pub fn owners_are_there<K: Kem>()
         → ((O : Owner) × IsOwner ⟦<K as Kem>⟧ rule M O) ⊎ HaveCollision (cards_of M.rows) }
 {}
 
-/// The history of a member after its steps has at most as many heads as it names members: of one sender each message has
-/// the older ones in its past, and each sender is named.
+/// The history of a member after its steps has at most as many heads as it names members: of one sender each message
+/// has the older ones in its past, and each sender is named.
 pub fn heads_are_few<K: Kem>()
     ensures { (rule : History → List Id) (steps : List Step) (M : Member) (made : List MadeMessage) (O : Owner)
         → IsRunOf ⟦<K as Kem>⟧ rule steps (Some M) made → IsOwner ⟦<K as Kem>⟧ rule M O → (ids : List Id)
