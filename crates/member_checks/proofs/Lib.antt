@@ -1,0 +1,7 @@
+pub mod InputStages
+pub mod CommandStages
+pub mod CardStages
+pub mod Finding
+pub mod Tests
+pub mod SeatFacts
+pub mod RatchetSteps

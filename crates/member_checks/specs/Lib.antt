@@ -1,0 +1,4 @@
+pub mod Answers
+pub mod Facts
+pub mod Inputs
+pub mod Seats
