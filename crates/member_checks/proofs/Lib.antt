@@ -2,6 +2,6 @@ pub mod InputStages
 pub mod CommandStages
 pub mod CardStages
 pub mod Finding
-pub mod Tests
+pub mod Below
 pub mod SeatFacts
 pub mod RatchetSteps

@@ -12,3 +12,6 @@ mod stepped;
 
 pub use input::{Input, Seat};
 pub use refusing::{first_refusal, refusal_before_made};
+
+#[cfg(test)]
+mod tests;

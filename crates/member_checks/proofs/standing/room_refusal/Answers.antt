@@ -2,7 +2,7 @@ use Rattle.std.proofs.Common.{inl, inr, sym, ◌∙◌, ap, arith}
 use Rattle.member_view.proofs.Oldest.{rows-length}
 use Rattle.reference_member.specs.declared.refusal.Refusal.TheVariants as refusals
 use Rattle.member_checks.proofs.SeatFacts.{length-is, made-is, leaves-are}
-use Rattle.member_checks.proofs.Tests.{below-is, below-not}
+use Rattle.member_checks.proofs.Below.{below-is, below-not}
 use Rattle.member_checks.proofs.standing.room_refusal.Goals as goal
 
 pub returns-then-count-ge-MESSAGES : goal.returns-then-count-ge-MESSAGES
