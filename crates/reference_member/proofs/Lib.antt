@@ -18,6 +18,5 @@ pub mod OwnersThere
 pub mod OneNext
 pub mod OneRun
 pub mod CardsSpelled
-pub mod PartsByBook
 pub mod TakenEnters
 pub mod HeadsFew

@@ -77,11 +77,13 @@ module _ {K P : Type 0} (kem : Ghosts K P) (rule : History → List Id) (M : Mem
       has_id = refl;
       suits = elim which [
         | inl s ↦ (let v = x.seen opens s in
-            inl (s,
-            subst (λ (h : History). InView O.rule h m O.id) (sym o.takings.base.agrees)
-            (subst (λ (r : History → List Id). InView r (known entered) m O.id) (sym is.rule_is)
-            (subst (λ (y : Id). InView rule (known entered) m y) (sym is.id) v.0)),
-            subst (λ (y : Id). y ≢ m.sender) (sym is.id) v.1))
+            inl (
+              s,
+              subst (λ (h : History). InView O.rule h m O.id) (sym o.takings.base.agrees)
+                  (subst (λ (r : History → List Id). InView r (known entered) m O.id) (sym is.rule_is)
+                  (subst (λ (y : Id). InView rule (known entered) m y) (sym is.id) v.0)),
+              subst (λ (y : Id). y ≢ m.sender) (sym is.id) v.1,
+            ))
         | inr e ↦ inr (e ∙ ap Add (sym is.id))
       ];
       unacked = λ a took i s k. elim (In-cases (subst (λ h. In a h) hist-is i)) [

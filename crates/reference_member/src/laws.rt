@@ -1,16 +1,8 @@
 //! Laws of the reference member. Each function does nothing; its contract is the law.
 
-ghost use Rattle.std.specs.Prelude.{◌≡◌, ◌⊎◌, ◌++◌, ◌≤◌, true, List, map, None, Option, Some, length};
-ghost use Rattle.group_fields.specs.Cards.{card_id};
-ghost use Rattle.group_fields.specs.declared.card.Card.{Card};
-ghost use Rattle.group_model.specs.Sets.{Bytes, Id, In};
-ghost use Rattle.group_model.specs.Messages.{Ack, AreHeads, History, Kind};
-ghost use Rattle.group_model.specs.Packets.{Given};
-ghost use Rattle.group_model.specs.Parts.{part_sent, parts_of};
-ghost use Rattle.group_keys.specs.Primitives.{primitives_of};
-ghost use Rattle.member_book.specs.BooksAfter.{part_by, payload_of};
-ghost use Rattle.member_book.specs.Laws.{book_of};
-ghost use Rattle.member_book.specs.Standing.{MayStill};
+ghost use Rattle.std.specs.Prelude.{◌≡◌, ◌⊎◌, ◌≤◌, List, None, Option, Some, length};
+ghost use Rattle.group_model.specs.Sets.{Bytes, Id};
+ghost use Rattle.group_model.specs.Messages.{AreHeads, History};
 ghost use Rattle.group_model.specs.Membership.{IsMembershipRule, ids_named};
 ghost use Rattle.group_model.specs.Logs.{hist};
 ghost use Rattle.group_model.specs.Settings.{Owner};
@@ -18,7 +10,6 @@ ghost use Rattle.group_model.specs.LawfulLogs.{IsLawfulLog};
 ghost use Rattle.group_model.specs.Conduct.{AnswersAtOnce, waiting};
 ghost use Rattle.causal_history.specs.Rows.{cards_of};
 ghost use Rattle.reference_member.specs.Members.{HaveCollision, HaveOneEach, IsOwner, Member, known};
-ghost use Rattle.reference_member.specs.Members.{own_id, own_pair, public_key_by};
 ghost use Rattle.reference_member.specs.Messages.{MadeMessage};
 ghost use Rattle.reference_member.specs.Steps.{HasRecord, Step, record_of};
 ghost use Rattle.wire_codec.specs.Packets.{IsPacket, Packet};
@@ -28,7 +19,6 @@ ghost use Rattle.reference_member.specs.Refusals.{IsOut, IsVerdict};
 ghost use Rattle.reference_member.specs.Accepted.{IsRunOf};
 
 use kem_trait::Kem;
-use member_book::laws::{the_book_carries_what_is_sent, the_book_stands_for_its_log};
 
 /// Bytes are the record of one step at most.
 pub fn records_are_of_one_step<K: Kem>()
@@ -81,23 +71,6 @@ pub fn runs_are_one<K: Kem>()
         (made others : List MadeMessage) → IsRunOf ⟦<K as Kem>⟧ rule steps M made
         → IsRunOf ⟦<K as Kem>⟧ rule steps N others → made ≡ others }
 {}
-
-/// The parts of a message that the member makes next are those that the book of its log gives: where the book gives
-/// what they carry, and each addressee has a card in the history or among those that the message brings.
-pub fn parts_are_the_books<K: Kem>()
-    ensures { (rule : History → List Id) (M : Member) (O : Owner) (cards : List Card) (t : Given) (k : Kind)
-        (payload : Bytes) (ids : List Id) → IsOwner ⟦<K as Kem>⟧ rule M O
-        → ((card : Card) → In card (cards_of M.rows ++ cards) → O.public_key (card_id card) ≡ card.kem_public)
-        → IsLawfulLog O M.log → ((i : Id) → k ≡ Ack i true → MayStill O.rule (hist M.log) i O.id)
-        → payload_of O t k (book_of O M.log) ≡ Some payload
-        → ((y : Id) → In y ids → In y (map card_id (cards_of M.rows ++ cards)))
-        → parts_of (λ y. part_by O t y payload (book_of O M.log)) ids
-        ≡ parts_of (part_sent (primitives_of ⟦<K as Kem>⟧) (own_pair ⟦<K as Kem>⟧ M) (own_id ⟦<K as Kem>⟧ M)
-        (public_key_by (cards_of M.rows ++ cards)) M.log t k) ids }
-{
-    the_book_carries_what_is_sent();
-    the_book_stands_for_its_log();
-}
 
 /// What a packet of another leaves that nothing refuses, before it is answered: its message is the newest of the history,
 /// the log with its entry is lawful, and where its part opened the ack may take the operation's secret.

@@ -8,7 +8,7 @@ mod refusal;
 
 pub use input::Input;
 pub use laws::{
-    heads_are_few, histories_are_those_of_logs, logs_are_lawful, owners_are_there, parts_are_the_books,
+    heads_are_few, histories_are_those_of_logs, logs_are_lawful, owners_are_there,
     ready_packets_enter, records_are_of_one_step, runs_are_one,
 };
 pub use refusal::Refusal;
