@@ -10,10 +10,10 @@ use Rattle.reference_member.specs.Refusals.{on_input, refusals_of}
 use Rattle.reference_member.specs.Steps as steps
 use Rattle.reference_member.specs.declared.refusal.Refusal.{Refusal}
 use Rattle.reference_member.specs.declared.refusal.Refusal.TheVariants as refusals
-use Rattle.member_checks.specs.declared.input.Input.{Input}
-use Rattle.member_checks.specs.declared.input.Input.TheVariants as inputs
+use Rattle.reference_member.specs.declared.input.Input.{Input}
+use Rattle.reference_member.specs.declared.input.Input.TheVariants as inputs
 use Rattle.member_checks.specs.Answers.{AnswersFirst}
-use Rattle.member_checks.specs.Inputs.{input_of}
+use Rattle.reference_member.specs.Inputs.{input_of}
 
 -- what follows of each answer
 pub ok-then : {T E : Type 0} {P Q : T → Type 0} (r : Result T E) → ((x : T) → P x → Q x) → IfOk r P → IfOk r Q

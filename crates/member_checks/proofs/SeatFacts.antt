@@ -4,7 +4,7 @@ use Rattle.kem_trait.specs.declared.kem.Kem.{Ghosts}
 use Rattle.group_model.specs.Validity.{count_of}
 use Rattle.causal_history.specs.Rows.{history_of}
 use Rattle.reference_member.specs.Members.{Member, known, made_count}
-use Rattle.member_checks.specs.declared.input.Seat.{Seat}
+use Rattle.member_checks.specs.declared.seat.Seat.{Seat}
 use Rattle.member_checks.specs.Seats.{IsSeatOf}
 
 module _ {K P : Type 0} (kem : Ghosts K P) (M : Member) (seat : Seat) (is : IsSeatOf kem M seat) where

@@ -1,20 +1,10 @@
--- What a member is given for a step, as the reference member has it.
+-- What is asked of what a member is given for a step.
 use Rattle.std.specs.Prelude.{List}
 use Rattle.group_fields.specs.Cards.{HasSpelling}
 use Rattle.group_fields.specs.declared.card.Card.{Card}
 use Rattle.group_model.specs.Sets.{In}
-use Rattle.reference_member.specs.Steps as steps
-use Rattle.member_checks.specs.declared.input.Input.{Input}
-use Rattle.member_checks.specs.declared.input.Input.TheVariants as inputs
-
-abbrev pub input_of : Input → steps.Input
-input_of (inputs.Init inviter height) = steps.Init inviter.0.0 height
-input_of (inputs.Create cards) = steps.Create cards.now
-input_of (inputs.Add card) = steps.Add card
-input_of (inputs.Remove target) = steps.Remove target.0.0
-input_of inputs.Update = steps.Update
-input_of (inputs.Send text) = steps.Send text.now
-input_of (inputs.Packet packet) = steps.Take packet.now
+use Rattle.reference_member.specs.declared.input.Input.{Input}
+use Rattle.reference_member.specs.declared.input.Input.TheVariants as inputs
 
 -- each of the cards has a spelling
 abbrev pub AreSpelled : List Card → Type 0

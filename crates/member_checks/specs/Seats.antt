@@ -6,7 +6,7 @@ use Rattle.group_model.specs.Membership.{ids_named}
 use Rattle.causal_history.specs.Rows.{history_of}
 use Rattle.causal_cast.specs.Judging.{set_of}
 use Rattle.reference_member.specs.Members.{Member, own_id}
-use Rattle.member_checks.specs.declared.input.Seat.{Seat}
+use Rattle.member_checks.specs.declared.seat.Seat.{Seat}
 
 -- The seat is the member's.
 pub record IsSeatOf {K P : Type 0} (kem : Ghosts K P) (M : Member) (seat : Seat) : Type 0 where

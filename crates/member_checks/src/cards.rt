@@ -13,7 +13,7 @@ ghost use Rattle.member_checks.specs.Seats.{IsSeatOf};
 ghost use Rattle.member_checks.specs.declared.facts.CardFacts.{CardFacts as Facts};
 
 use crate::facts::CardFacts;
-use crate::input::Seat;
+use crate::seat::Seat;
 use crate::standing::is_named;
 use causal_history::History;
 use group_fields::MemberId;

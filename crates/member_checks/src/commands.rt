@@ -9,7 +9,7 @@ ghost use Rattle.member_checks.specs.Seats.{IsSeatOf};
 
 use crate::cards::{cards_refusal, is_same};
 use crate::facts::{facts_of_cards, facts_of_view};
-use crate::input::Seat;
+use crate::seat::Seat;
 use crate::standing::{is_empty, is_member, is_out, joined_refusal, room_refusal};
 use crate::stepped::has_stepped;
 use group_fields::{CardView, Cards, MemberId, Memory};

@@ -4,14 +4,14 @@
 mod cards;
 mod commands;
 mod facts;
-mod input;
 mod packets;
 mod refusing;
+mod seat;
 mod standing;
 mod stepped;
 
-pub use input::{Input, Seat};
 pub use refusing::{first_refusal, refusal_before_made};
+pub use seat::Seat;
 
 #[cfg(test)]
 mod tests;

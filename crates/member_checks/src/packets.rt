@@ -12,7 +12,7 @@ ghost use Rattle.reference_member.specs.Refusals.{IsVerdict, on_packet, verdicts
 ghost use Rattle.member_checks.specs.Answers.{AnswersFirst};
 ghost use Rattle.member_checks.specs.Seats.{IsSeated, IsSeatOf};
 
-use crate::input::Seat;
+use crate::seat::Seat;
 use crate::standing::{has_leaf, is_empty};
 use causal_cast::{Verdict, judge};
 use group_fields::Memory;

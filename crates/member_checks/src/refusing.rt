@@ -4,16 +4,17 @@ ghost use Rattle.std.specs.Prelude.{◌≤◌, None, Some, IfOk};
 ghost use Rattle.reference_member.specs.Members.{Member};
 ghost use Rattle.reference_member.specs.Refusals.{refusals_of};
 ghost use Rattle.member_checks.specs.Answers.{AnswersFirst};
-ghost use Rattle.member_checks.specs.Inputs.{HasSpelledCards, input_of};
+ghost use Rattle.reference_member.specs.Inputs.{input_of};
+ghost use Rattle.member_checks.specs.Inputs.{HasSpelledCards};
 ghost use Rattle.member_checks.specs.Seats.{IsSeated, IsSeatOf};
 
 use crate::commands::{add_refusal, create_refusal, remove_refusal, send_refusal, update_refusal};
-use crate::input::{Input, Seat};
 use crate::packets::packet_refusal;
+use crate::seat::Seat;
 use group_fields::Memory;
 use kem_trait::Kem;
 use member_view::Membership;
-use reference_member::Refusal;
+use reference_member::{Input, Refusal};
 use std::alloc::Global;
 
 /// The refusal of a step by a member that was made: the first that holds, and None where none holds. The step's random

@@ -10,7 +10,7 @@ ghost use Rattle.reference_member.specs.Refusals.{IsOut, on_joined, on_room};
 ghost use Rattle.member_checks.specs.Answers.{AnswersFirst};
 ghost use Rattle.member_checks.specs.Seats.{IsSeatOf};
 
-use crate::input::Seat;
+use crate::seat::Seat;
 use causal_history::{History, Marks};
 use group_fields::MemberId;
 use kem_trait::Kem;

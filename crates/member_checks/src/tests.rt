@@ -8,14 +8,14 @@ ghost use Rattle.member_checks.specs.Seats.{IsSeated};
 mod making;
 
 use crate::standing::is_named;
-use crate::{Input, Seat, first_refusal, refusal_before_made};
+use crate::{Seat, first_refusal, refusal_before_made};
 use causal_cast::{Verdict, set_of};
 use causal_history::History;
 use group_fields::{Bytes, Card, Cards, Digest, Ids, Kind, MemberId, MessageId, Target};
 use making::*;
 use member_view::RemoveWins;
 use ntru_prime::Drill37;
-use reference_member::Refusal;
+use reference_member::{Input, Refusal};
 use std::alloc::Global;
 use std::test::Fail;
 

@@ -1,5 +1,5 @@
 use Rattle.std.proofs.Common.{Some, inl, refl}
-use Rattle.member_checks.specs.declared.input.Input.TheVariants as inputs
+use Rattle.reference_member.specs.declared.input.Input.TheVariants as inputs
 use Rattle.reference_member.specs.declared.refusal.Refusal.TheVariants as refusals
 use Rattle.member_checks.proofs.InputStages.{by-input, ok-then}
 use Rattle.member_checks.proofs.refusing.first_refusal.Goals as goal
