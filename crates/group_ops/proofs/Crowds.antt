@@ -65,7 +65,7 @@ names-first h m seeded create new = of m.kind refl seeded create
 
 -- ---- the ids of a create
 
-joined-new : (ids more : List Id) → IsDistinct more → ((x : Id) → In x more → In x ids → ⊥) → joined ids more ≡ ids ++ more
+pub joined-new : (ids more : List Id) → IsDistinct more → ((x : Id) → In x more → In x ids → ⊥) → joined ids more ≡ ids ++ more
 joined-new ids [] d apart = sym (append-nil ids)
 joined-new ids (i ∷ more) d apart = elim (test (has ids i)) [
   | yes_is e ↦ absurd (apart i here (has-In ids i e))

@@ -1,5 +1,8 @@
 //! What a member takes of the messages of a group of three: the update secrets that it learns, and the ratchets that it
 //! knows then, against the definition of a ratchet's step.
+
+mod making;
+
 ghost use Rattle.std.specs.Prelude.{◌≡◌, ◌<◌, ◌∷◌, ◌↔◌, ℕ, IsTrue, IsSome, true, length};
 ghost use Rattle.causal_history.specs.Rows.{history_of};
 ghost use Rattle.group_fields.specs.declared.header.Target.{Target as TargetWords};
@@ -79,12 +82,29 @@ fn draw(alloc: Global, number: u8) -> Result<PartDraw<Drill37>, Fail> {
 
 // ---- books
 
-/// Meets the own place first.
-fn meet_own(alloc: Global, book: &mut Drill) -> Result<(), Fail> {
-    if book.met() != 0 {
-        return Err(Fail::new("the own place is the first here"));
+/// Whether each place that was met has a pairing, as where the own one wasn't met yet.
+fn all_paired(book: &Drill) -> bool
+    ensures { IsTrue result → (q : ℕ) → q < length book.now.places → IsSome ((held book.now).pairing q) }
+{
+    for place in 0..book.met() {
+        if place > 255 {
+            return false;
+        }
+        match book.sends(place as u8) {
+            Some(_) => {}
+            None => return false,
+        }
     }
-    Ok(book.meet(alloc, 0, None)?)
+    true
+}
+
+/// Meets the own place.
+fn meet_own(alloc: Global, book: &mut Drill) -> Result<(), Fail> {
+    let place = book.met();
+    if place > 255 || !all_paired(book) {
+        return Err(Fail::new("no place, or a second own one"));
+    }
+    Ok(book.meet(alloc, place as u8, None)?)
 }
 
 /// Meets the member whose pair is made by the seed of a number.
@@ -153,10 +173,10 @@ fn card_bytes(alloc: Global, number: u8) -> Result<Bytes, Fail> {
     Ok(write_card(alloc, &card)?)
 }
 
-/// The ids of three members, in their order.
-fn all_ids(alloc: Global) -> Result<Vec<[u8; 32]>, Fail> {
+/// The ids of so many members, in their order.
+fn all_ids(alloc: Global, count: u8) -> Result<Vec<[u8; 32]>, Fail> {
     let mut ids = Vec::new(alloc);
-    for number in 0..3 {
+    for number in 0..count {
         let bytes = card_bytes(alloc, number)?;
         match read_card(bytes.as_slice()) {
             Ok(card) => ids.push(card.id().0.0)?,
@@ -368,17 +388,19 @@ fn answer(
 
 // ---- stories: members 0, 1 and 2 in the order of their ids, of whom the first takes
 
-/// A group of three, made by the member at a place, before and behind its create.
+/// A group, made by the member at a place, before and behind its create.
 #[derive(Drop)]
 struct Group {
     ids: Vec<[u8; 32]>,
+    cards: Cards,
     create: Bytes,
     before: History,
     behind: History,
 }
 
-fn new_group(alloc: Global, maker: u8) -> Result<Group, Fail> {
-    let ids = all_ids(alloc)?;
+/// A group of up to three.
+fn new_group(alloc: Global, count: u8, maker: u8) -> Result<Group, Fail> {
+    let ids = all_ids(alloc, count)?;
     let mut cards = Cards::new(alloc);
     for id in ids.as_slice() {
         push_card(alloc, &mut cards, id)?;
@@ -388,6 +410,7 @@ fn new_group(alloc: Global, maker: u8) -> Result<Group, Fail> {
     push(&mut behind, create.as_slice(), &cards)?;
     Ok(Group {
         ids,
+        cards,
         create,
         before: History::new(alloc),
         behind,
@@ -592,7 +615,7 @@ enum Story {
 
 fn is_told(alloc: Global, book: &mut Drill, maker: u8, story: Story) -> Result<bool, Fail> {
     met_all(alloc, book)?;
-    let group = new_group(alloc, maker)?;
+    let group = new_group(alloc, 3, maker)?;
     match story {
         Story::HearsTheSeed => hears_the_seed(alloc, book, &group),
         Story::HearsAForward => hears_a_forward(alloc, book, &group),
