@@ -1,3 +1,4 @@
 mod AddBody
 mod AddMoves
 mod Forgotten
+mod TestFacts

@@ -1,3 +1,4 @@
 //! Adds of a small group.
 
 mod adding;
+mod taking;

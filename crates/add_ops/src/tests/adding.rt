@@ -1,9 +1,13 @@
 //! The body of an add, which the book of who is added opens.
 
-ghost use Rattle.std.specs.Prelude.{◌≡◌, All, IsTrue};
+ghost use Rattle.std.specs.Prelude.{◌≡◌, ◌<◌, ◌∷◌, ℕ, All, IsSome, IsTrue, length, true};
 ghost use Rattle.group_fields.specs.declared.card.Card.{Card};
-ghost use Rattle.group_model.specs.Sets.{In};
-ghost use Rattle.causal_history.specs.Rows.{cards_of};
+ghost use Rattle.group_messages.specs.Messages.{message_of};
+ghost use Rattle.group_model.specs.Membership.{ids_named};
+ghost use Rattle.group_model.specs.Messages.{Message};
+ghost use Rattle.group_model.specs.Sets.{In, has};
+ghost use Rattle.causal_history.specs.Rows.{cards_of, history_of};
+ghost use Rattle.secret_book.specs.HeldBooks.{held};
 
 use crate::make_add;
 use body_parts::{Receiver, can_reach, draw_for};
@@ -13,26 +17,29 @@ use group_fields::{
     Target, read_card, read_header, write_card, write_header,
 };
 use kem_trait::{Kem, SeedWords};
+use member_view::place_with;
 use ntru_prime::Drill37;
 use secret_book::Book;
 use std::alloc::Global;
 use std::test::Fail;
 use welcome_history::append_welcome;
 
-type Drill = Book<Drill37>;
+pub(super) type Drill = Book<Drill37>;
 
 /// The bytes of a card and of a part of this set.
-const CARD: usize = 124;
+pub(super) const CARD: usize = 124;
 
-const PART: usize = 259;
+pub(super) const PART: usize = 259;
 
-const RATCHET: [u8; 32] = [0x5a; 32];
+pub(super) const RATCHET: [u8; 32] = [0x5a; 32];
 
-/// A history whose cards are of the set.
+/// A history whose cards are of the set, and whose senders are named.
 #[derive(Drop)]
-struct Told {
-    history: History,
+pub(super) struct Told {
+    pub history: History,
     ghost of_set: { (card : Card) → In card (cards_of history) → card.set ≡ 2 },
+    ghost senders: { (m : Message) → In m (history_of history)
+        → has (ids_named (history_of history)) m.sender ≡ true },
 }
 
 /// Whether all cards are of the set.
@@ -42,17 +49,44 @@ fn are_of_set(cards: &[Card]) -> bool
     cards.iter().all(|card| card.set == 2)
 }
 
+/// Whether the sender of a message is named by the history or the message.
+pub(super) fn is_placed(history: &History, header: &HeaderView<'_>) -> bool
+    ensures { IsTrue result
+        → In (message_of header.now).sender (ids_named (message_of header.now ∷ history_of history.now)) }
+{
+    match place_with(history, Some(header), &header.sender()) {
+        Some(_) => true,
+        None => false,
+    }
+}
+
 /// Pushes a row, where it may stand.
 fn push(told: &mut Told, header: &HeaderView<'_>, cards: &Cards) -> Result<(), Fail> {
-    if !are_of_set(cards.as_slice()) || !told.history.may_push(header, cards)? {
+    let placed = is_placed(&told.history, header);
+    let may = told.history.may_push(header, cards)?;
+    if !are_of_set(cards.as_slice()) || !placed || !may {
         return Err(Fail::new("a row that may not be pushed"));
     }
     told.history.push(header, cards)?;
     Ok(())
 }
 
+/// Pushes the row of a header's bytes with the cards of these numbers.
+pub(super) fn tell(
+    alloc: Global,
+    told: &mut Told,
+    bytes: &[u8],
+    numbers: &[u8],
+) -> Result<(), Fail> {
+    let cards = cards_of(alloc, numbers)?;
+    match read_header(bytes) {
+        Ok(header) => push(told, &header, &cards),
+        Err(_) => Err(Fail::new("no header")),
+    }
+}
+
 /// A card, by the number that its bytes have.
-fn card_bytes(alloc: Global, number: u8) -> Result<Bytes, Memory> {
+pub(super) fn card_bytes(alloc: Global, number: u8) -> Result<Bytes, Memory> {
     let mut lms_public = [number; 56];
     lms_public[..8].copy_from_slice(&[0, 0, 0, 5, 0, 0, 0, 3]);
     let card = Card {
@@ -68,29 +102,62 @@ fn card_bytes(alloc: Global, number: u8) -> Result<Bytes, Memory> {
 }
 
 /// The card that the bytes spell.
-fn card_in(bytes: &[u8]) -> Result<CardView<'_>, Fail> {
+pub(super) fn card_in(bytes: &[u8]) -> Result<CardView<'_>, Fail> {
     match read_card(bytes) {
         Ok(card) => Ok(card),
         Err(_) => Err(Fail::new("no card")),
     }
 }
 
-/// A create of the member of a card, alone.
-fn create_bytes(alloc: Global, id: MemberId) -> Result<Bytes, Fail> {
+/// The id of the member whose card has a number.
+pub(super) fn id_of(alloc: Global, number: u8) -> Result<MemberId, Fail> {
+    Ok(card_in(card_bytes(alloc, number)?.as_slice())?.id())
+}
+
+/// The cards of these numbers.
+fn cards_of(alloc: Global, numbers: &[u8]) -> Result<Cards, Fail> {
+    let mut cards = Cards::new(alloc);
+    for number in numbers {
+        cards.push(&card_in(card_bytes(alloc, *number)?.as_slice())?)?;
+    }
+    Ok(cards)
+}
+
+/// The header of a message that follows these.
+pub(super) fn header_bytes(
+    alloc: Global,
+    sender: MemberId,
+    kind: Kind,
+    target: Target,
+    after: &[Digest],
+) -> Result<Bytes, Fail> {
     let header = Header {
         set: 2,
         group: GroupId(Digest([9; 32])),
-        sender: id,
+        sender,
         seq: 1,
-        kind: Kind::Create,
-        target: Target::Members(Ids::from(vec![in alloc; id.0; 1]?)),
-        predecessors: Ids::new(alloc),
+        kind,
+        target,
+        predecessors: Ids::from(after.to_vec(alloc)?),
         body: Digest([7; 32]),
     };
     if !header.has_spelling() {
         return Err(Fail::new("no header"));
     }
     Ok(write_header(alloc, &header)?)
+}
+
+/// A create by the first of the members of these cards.
+fn create_bytes(alloc: Global, numbers: &[u8]) -> Result<Bytes, Fail> {
+    let mut ids = Vec::new(alloc);
+    for number in numbers {
+        ids.push(id_of(alloc, *number)?.0)?;
+    }
+    let Some(first) = ids.as_slice().first().copied() else {
+        return Err(Fail::new("nobody"));
+    };
+    let members = Target::Members(Ids::from(ids));
+    header_bytes(alloc, MemberId(first), Kind::Create, members, &[])
 }
 
 /// No rows.
@@ -100,59 +167,86 @@ fn nothing(alloc: Global) -> Told {
     }
 }
 
-/// A history in which the member of the card with a number opens a group of its own.
-fn history_of(alloc: Global, number: u8) -> Result<Told, Fail> {
+/// A history in which the first of the members of these cards, in the order of their ids, opens a group of all.
+pub(super) fn history_of(alloc: Global, numbers: &[u8]) -> Result<Told, Fail> {
     let mut told = nothing(alloc);
-    let bytes = card_bytes(alloc, number)?;
-    let card = card_in(bytes.as_slice())?;
-    let mut cards = Cards::new(alloc);
-    cards.push(&card)?;
-    let create = create_bytes(alloc, card.id())?;
-    match read_header(create.as_slice()) {
-        Ok(header) => push(&mut told, &header, &cards)?,
-        Err(_) => return Err(Fail::new("no header")),
-    }
+    let create = create_bytes(alloc, numbers)?;
+    tell(alloc, &mut told, create.as_slice(), numbers)?;
     Ok(told)
 }
 
-fn pair(alloc: Global, number: u8) -> Result<<Drill37 as Kem>::Pair, Fail> {
+pub(super) fn pair(alloc: Global, number: u8) -> Result<<Drill37 as Kem>::Pair, Fail> {
     Ok(Drill37::make(alloc, &mut SeedWords::new(&[number; 32]))?)
 }
 
-/// Meets the own place, which is the first.
-fn meet_self(alloc: Global, book: &mut Drill) -> Result<(), Fail> {
-    if book.met() > 0 {
-        return Err(Fail::new("another place was met before"));
+/// Whether each place that was met has a pairing, as where the own one wasn't met yet.
+fn all_paired(book: &Drill) -> bool
+    ensures { IsTrue result → (q : ℕ) → q < length book.now.places → IsSome ((held book.now).pairing q) }
+{
+    for place in 0..book.met() {
+        if place > 255 {
+            return false;
+        }
+        match book.sends(place as u8) {
+            Some(_) => {}
+            None => return false,
+        }
     }
-    Ok(book.meet(alloc, 0, None)?)
+    true
 }
 
-/// Meets a member whose pair is made by the seed of a number, at the second place.
-fn meet_other(alloc: Global, book: &mut Drill, number: u8) -> Result<(), Fail> {
+/// Meets the own place.
+fn meet_own(alloc: Global, book: &mut Drill) -> Result<(), Fail> {
+    let place = book.met();
+    if place > 255 || !all_paired(book) {
+        return Err(Fail::new("no place, or a second own one"));
+    }
+    Ok(book.meet(alloc, place as u8, None)?)
+}
+
+/// Meets a member whose pair is made by the seed of a number.
+fn meet(alloc: Global, book: &mut Drill, number: u8) -> Result<(), Fail> {
+    let place = book.met();
     let theirs = pair(alloc, number)?;
     let mut public = vec![in alloc; 0; Drill37::PUBLIC_LEN]?;
     Drill37::public(&theirs, public.as_mut_slice());
-    if book.met() != 1 || !Drill37::public_ok(public.as_slice()) {
-        return Err(Fail::new("no second place, or no public key"));
+    if place > 255 || !Drill37::public_ok(public.as_slice()) {
+        return Err(Fail::new("no place, or no public key"));
     }
-    Ok(book.meet(alloc, 1, Some(public.as_slice()))?)
+    Ok(book.meet(alloc, place as u8, Some(public.as_slice()))?)
 }
 
-/// Both places of a book.
-fn meet_both(alloc: Global, book: &mut Drill, number: u8) -> Result<(), Fail> {
-    meet_self(alloc, book)?;
-    meet_other(alloc, book, number)
+/// Meets the members of these numbers, of whom one is the owner.
+pub(super) fn meet_all(
+    alloc: Global,
+    book: &mut Drill,
+    numbers: &[u8],
+    own: u8,
+) -> Result<(), Fail> {
+    for number in numbers {
+        if *number == own {
+            meet_own(alloc, book)?;
+        } else {
+            meet(alloc, book, *number)?;
+        }
+    }
+    Ok(())
 }
 
-/// Hands the own ratchet.
-fn hand_own(book: &mut Drill) {
-    if book.met() > 0 {
-        book.hand(0, RATCHET);
+/// Hands the ratchet of a place.
+pub(super) fn hand(book: &mut Drill, place: u8, ratchet: [u8; 32]) {
+    if (place as usize) < book.met() {
+        book.hand(place, ratchet);
     }
 }
 
 /// The body of an add of the member of a card.
-fn added(alloc: Global, book: &mut Drill, told: &Told, card: &CardView<'_>) -> Result<Bytes, Fail> {
+pub(super) fn added(
+    alloc: Global,
+    book: &mut Drill,
+    told: &Told,
+    card: &CardView<'_>,
+) -> Result<Bytes, Fail> {
     let history = &told.history;
     let to = Receiver {
         place: history.places(),
@@ -208,10 +302,10 @@ fn is_add(
 
 /// ada, who opened a group of her own, adds bob.
 fn story(alloc: Global, ada: &mut Drill, bob: &mut Drill) -> Result<bool, Fail> {
-    meet_both(alloc, ada, 2)?;
-    meet_both(alloc, bob, 1)?;
-    hand_own(ada);
-    let told = history_of(alloc, 1)?;
+    meet_all(alloc, ada, &[1, 2], 1)?;
+    meet_all(alloc, bob, &[2, 1], 2)?;
+    hand(ada, 0, RATCHET);
+    let told = history_of(alloc, &[1])?;
     let card = card_bytes(alloc, 2)?;
     let body = added(alloc, ada, &told, &card_in(card.as_slice())?)?;
     let handed_on = welcome(alloc, &told)?;

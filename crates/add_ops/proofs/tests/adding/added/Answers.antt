@@ -1,4 +1,4 @@
-use Rattle.std.proofs.Common.{rules, ◌≡◌, IsSome, subst}
+use Rattle.std.proofs.Common.{rules, IsSome, subst}
 use Rattle.std.specs.Prelude.{IsTrue}
 use Rattle.group_model.specs.Sets.{Id, here}
 use Rattle.secret_book.specs.HeldBooks.{held}
