@@ -1,8 +1,8 @@
 use crate::*;
 use causal_history::{Crowd, History};
 use group_fields::{
-    Bytes, Card, Cards, Digest, GroupId, Header, HeaderView, Ids, Kind, MemberId, Memory, Target,
-    read_card, read_header, write_card, write_header,
+    Bytes, Card, Cards, Digest, GroupId, Header, HeaderView, Ids, Kind, MemberId, Memory,
+    MessageId, Target, read_card, read_header, write_card, write_header,
 };
 use member_view::RemoveWins;
 use std::alloc::Global;
@@ -74,6 +74,7 @@ enum Does {
     Add(u8),
     Remove(u8),
     Update,
+    AddAck(u32),
 }
 
 struct Row {
@@ -118,20 +119,59 @@ const ROWS: [Row; 5] = [
     },
 ];
 
+// Member 0 makes the group of 0 to 3, and adds 4, which 2 answers; member 1 updates beside the add.
+const CROSSED: [Row; 4] = [
+    Row {
+        sender: 0,
+        seq: 1,
+        does: Does::Create,
+        behind: &[],
+    },
+    Row {
+        sender: 1,
+        seq: 1,
+        does: Does::Update,
+        behind: &[0],
+    },
+    Row {
+        sender: 0,
+        seq: 2,
+        does: Does::Add(4),
+        behind: &[0],
+    },
+    Row {
+        sender: 2,
+        seq: 1,
+        does: Does::AddAck(2),
+        behind: &[2],
+    },
+];
+
 fn kind_of(does: &Does) -> Kind {
     match does {
         Does::Create => Kind::Create,
         Does::Add(_) => Kind::Add,
         Does::Remove(_) => Kind::Remove,
         Does::Update => Kind::Update,
+        Does::AddAck(_) => Kind::AddAck,
     }
 }
 
-fn target_of(alloc: Global, does: &Does) -> Result<Target, Memory> {
+// The id of a row; 32 zero bytes where there is none.
+fn row_id(history: &History, row: u32) -> MessageId {
+    if row < history.count() {
+        history.id(row)
+    } else {
+        MessageId(Digest([0; 32]))
+    }
+}
+
+fn target_of(alloc: Global, history: &History, does: &Does) -> Result<Target, Memory> {
     Ok(match does {
         Does::Create => Target::Members(members(alloc, &[0, 1, 2, 3])?),
         Does::Add(number) | Does::Remove(number) => Target::Member(member(alloc, *number)?),
         Does::Update => Target::Nothing,
+        Does::AddAck(row) => Target::Answer(row_id(history, *row), true),
     })
 }
 
@@ -139,16 +179,14 @@ fn cards_of(alloc: Global, does: &Does) -> Result<Cards, Memory> {
     match does {
         Does::Create => cards(alloc, &[0, 1, 2, 3]),
         Does::Add(number) => cards(alloc, &[*number]),
-        Does::Remove(_) | Does::Update => Ok(Cards::new(alloc)),
+        Does::Remove(_) | Does::Update | Does::AddAck(_) => Ok(Cards::new(alloc)),
     }
 }
 
 fn predecessors(alloc: Global, history: &History, rows: &[u32]) -> Result<Ids, Memory> {
     let mut ids = Vec::new(alloc);
     for row in rows {
-        if *row < history.count() {
-            ids.push(history.id(*row).0.0)?;
-        }
+        ids.push(row_id(history, *row).0.0)?;
     }
     digests(alloc, ids)
 }
@@ -160,7 +198,7 @@ fn header_bytes(alloc: Global, history: &History, row: &Row) -> Result<Bytes, Me
         sender: member(alloc, row.sender)?,
         seq: row.seq,
         kind: kind_of(&row.does),
-        target: target_of(alloc, &row.does)?,
+        target: target_of(alloc, history, &row.does)?,
         predecessors: predecessors(alloc, history, row.behind)?,
         body: Digest([7; 32]),
     };
@@ -192,8 +230,8 @@ fn push(alloc: Global, history: &mut History, row: &Row) -> Result<bool, Memory>
     }
 }
 
-fn push_all(alloc: Global, history: &mut History) -> Result<bool, Memory> {
-    for row in &ROWS {
+fn push_all(alloc: Global, history: &mut History, rows: &[Row]) -> Result<bool, Memory> {
+    for row in rows {
         if !push(alloc, history, row)? {
             return Ok(false);
         }
@@ -225,8 +263,11 @@ fn forwarded(alloc: Global, history: &History, row: u32, me: u8) -> Result<Vec<u
     Ok(numbers)
 }
 
-// The row of an operation, the acknowledger, and whom it forwards to: 5 is removed, and an add is never forwarded.
-const CASES: [(u32, u8, &[u8]); 9] = [
+// The row of an operation, the acknowledger, and whom it forwards to.
+type Case = (u32, u8, &'static [u8]);
+
+// 5 is removed, and an add is never forwarded.
+const CASES: [Case; 9] = [
     (0, 1, &[4]),
     (0, 2, &[4]),
     (0, 4, &[]),
@@ -238,9 +279,15 @@ const CASES: [(u32, u8, &[u8]); 9] = [
     (4, 3, &[]),
 ];
 
+// Who answered the add forwards to whom it added, and to nobody else; so does 3, who has seen the add since.
+const CROSSED_CASES: [Case; 2] = [(1, 2, &[4]), (1, 3, &[4])];
+
+// Who hasn't seen the add forwards to nobody.
+const EARLY_CASES: [Case; 2] = [(1, 2, &[]), (1, 3, &[])];
+
 // The number of the first case that is answered otherwise; none where all are answered so.
-fn first_amiss(alloc: Global, history: &History) -> Result<Option<usize>, Memory> {
-    for (index, (row, me, to)) in CASES.iter().enumerate() {
+fn first_amiss(alloc: Global, history: &History, cases: &[Case]) -> Result<Option<usize>, Memory> {
+    for (index, (row, me, to)) in cases.iter().enumerate() {
         let numbers = forwarded(alloc, history, *row, *me)?;
         if numbers.as_slice() != *to {
             return Ok(Some(index));
@@ -249,16 +296,19 @@ fn first_amiss(alloc: Global, history: &History) -> Result<Option<usize>, Memory
     Ok(None)
 }
 
-fn told(alloc: Global, history: &mut History) -> Result<Option<usize>, Fail> {
-    if !push_all(alloc, history)? {
+// The same of a history of these rows.
+fn told(alloc: Global, rows: &[Row], cases: &[Case]) -> Result<Option<usize>, Fail> {
+    let mut history = History::new(alloc);
+    if !push_all(alloc, &mut history, rows)? {
         return Err(Fail::new("a row can't be pushed"));
     }
-    Ok(first_amiss(alloc, history)?)
+    Ok(first_amiss(alloc, &history, cases)?)
 }
 
 #[test]
 fn forwards_to_whom_the_operation_left_out(rt: HostRuntime) -> Result<(), Fail> {
-    let mut history = History::new(rt.alloc());
-    assert_eq!(rt; told(rt.alloc(), &mut history)?, None);
+    assert_eq!(rt; told(rt.alloc(), &ROWS, &CASES)?, None);
+    assert_eq!(rt; told(rt.alloc(), &CROSSED, &CROSSED_CASES)?, None);
+    assert_eq!(rt; told(rt.alloc(), &CROSSED[..2], &EARLY_CASES)?, None);
     Ok(())
 }
