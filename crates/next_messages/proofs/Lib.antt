@@ -3,3 +3,5 @@ pub mod Addressed
 pub mod Parts
 pub mod Drawing
 pub mod Seeded
+pub mod Answered
+pub mod Added

@@ -7,7 +7,7 @@ use Rattle.group_fields.specs.declared.card.Card.{Card}
 use Rattle.group_model.specs.Sets.{Bytes, Id, In, here, there}
 use Rattle.group_model.specs.Messages.{Ack, Kind}
 use Rattle.group_model.specs.Packets.{Given}
-use Rattle.group_model.specs.Pairing.{Part}
+use Rattle.group_model.specs.Pairing.{Draws, PairEvent, Part, draws, part_to}
 use Rattle.group_model.specs.Primitives.{KeyPair, Primitives}
 use Rattle.group_model.specs.Logs.{Log, hist}
 use Rattle.group_model.specs.Parts.{part_sent, part_with, parts_of, payload_sent}
@@ -48,11 +48,11 @@ sent_with l t k y K card self key = option_and_then (λ (v : Bytes). part_with K
 
 module _ {K P : Type 0} (kem : Ghosts K P) (sends : SendsSame) (same : PartsSame) (M : Member) (cards : List Card) (O : Owner)
     (state : BookState) (book : IsBookOf kem M (cards_of M.rows ++ cards) O state) (t : Given) (kind : Kind) (payload : Bytes)
-    (carries : payload_of O t kind state ≡ Some payload) (may : (i : Id) → kind ≡ Ack i true → MayStill O.rule (hist M.log) i O.id) where
+    (carries : payload_of O t kind state ≡ Some payload) (sealing : BookState) (events : sealing.events ≡ state.events) (may : (i : Id) → kind ≡ Ack i true → MayStill O.rule (hist M.log) i O.id) where
   -- the part for an id that a card has
   part-is : (y : Id) → In y (map card_id (cards_of M.rows ++ cards))
       → part_sent (primitives_of kem) (own_pair kem M) (own_id kem M) (public_key_by (cards_of M.rows ++ cards)) M.log t kind y
-      ≡ part_by O (given t.random) y payload state
+      ≡ part_by O (given t.random) y payload sealing
   part-is y i =
       let l = M.log in
       let key = public_key_by (cards_of M.rows ++ cards) y in
@@ -63,14 +63,16 @@ module _ {K P : Type 0} (kem : Ghosts K P) (sends : SendsSame) (same : PartsSame
       ∙ ap (λ (o : Option Bytes). option_and_then (λ (v : Bytes). part_with O.primitives O.card O.id (O.public_key y) l t y v) o)
       (sym (sends O l t kind state book.stands may) ∙ carries)
       ∙ sym (same O l t y payload state book.stands)
+      ∙ ap (λ (e : Id → List PairEvent). option_and_then (λ (d : Draws). part_to O.primitives (O.public_key y) (e y) d payload)
+      (draws O.primitives t.random y)) (sym events)
 
   pub parts-are : (to : List Receiver) (drawn : List Drawn) (ids : List Id) (before after : HeldBook) (parts : List AddressedPart)
-      → AreMadeFor kem to payload drawn before after parts → HeldStands kem O ids before state → ArePlaced ids to
+      → AreMadeFor kem to payload drawn before after parts → HeldStands kem O ids before sealing → ArePlaced ids to
       → AreDrawnFrom (primitives_of kem) t.random drawn (ids_to to)
       → ((y : Id) → In y (ids_to to) → In y (map card_id (cards_of M.rows ++ cards)))
       → parts_of (part_sent (primitives_of kem) (own_pair kem M) (own_id kem M) (public_key_by (cards_of M.rows ++ cards)) M.log t kind)
       (ids_to to) ≡ Some (map (addressed_of kem) parts)
   parts-are to drawn ids before after parts made stands placed drawn_from have =
       parts-same (part_sent (primitives_of kem) (own_pair kem M) (own_id kem M) (public_key_by (cards_of M.rows ++ cards)) M.log t kind)
-      (λ y. part_by O (given t.random) y payload state) (ids_to to) (λ y i. part-is y (have y i))
-      ∙ (made.sends O ids state t.random stands placed drawn_from).sent
+      (λ y. part_by O (given t.random) y payload sealing) (ids_to to) (λ y i. part-is y (have y i))
+      ∙ (made.sends O ids sealing t.random stands placed drawn_from).sent

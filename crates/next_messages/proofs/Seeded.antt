@@ -69,12 +69,12 @@ carries-seed O t state kinds.Ack target cards s = absurd s
 carries-seed O t state kinds.AddAck target cards s = absurd s
 carries-seed O t state kinds.Text target cards s = absurd s
 
-map-both : {A B : Type 0} (f : A → B) (xs ys : List A) → map f (xs ++ ys) ≡ map f xs ++ map f ys
+pub map-both : {A B : Type 0} (f : A → B) (xs ys : List A) → map f (xs ++ ys) ≡ map f xs ++ map f ys
 map-both f [] ys = refl
 map-both f (x ∷ xs) ys = ap (λ z. f x ∷ z) (map-both f xs ys)
 
 -- who has a place has a card
-has-card : (rows : List Row) → IsKept rows → (cards : List Card) (y : Id) → In y (placed_by (ids_named (history_of rows)) cards)
+pub has-card : (rows : List Row) → IsKept rows → (cards : List Card) (y : Id) → In y (placed_by (ids_named (history_of rows)) cards)
     → In y (map card_id (cards_of rows ++ cards))
 has-card rows kept [] y i =
     subst (λ z. In y z) (sym (map-both card_id (cards_of rows) []))
@@ -118,7 +118,7 @@ module _ {K P : Type 0} (kem : Ghosts K P) (rule : History → List Id) (M : Mem
               (layout-is kem.SET header.kind header.target cards seeds) (body.spelled few);
           cards_are = refl;
           parts = parts-are kem sends same M cards O state book t (kind_of header) (seed_of (primitives_of kem) t.random)
-              (carries-seed O t state header.kind header.target cards seeds ∙ ap (λ z. Some (seed_of z t.random)) book.primitives)
+              (carries-seed O t state header.kind header.target cards seeds ∙ ap (λ z. Some (seed_of z t.random)) book.primitives) state refl
               (λ i e. absurd (no-ack header.kind header.target cards seeds i e)) body.to made.drawn ids before after body.parts
               body.made stands body.receivers.placed made.drawn_from
               (λ y i. has-card M.rows kept cards y (place-in ids (receiver-at ids bits body.to body.receivers y i).0 y

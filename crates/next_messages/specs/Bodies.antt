@@ -1,5 +1,5 @@
 -- The body of the message that a member makes next, as its book makes it. docs/GROUP.md, "The reference member".
-use Rattle.std.specs.Prelude.{◌≡◌, ℕ, ◌<◌, Bool, true, List, [], ◌++◌, Some, None, length, map}
+use Rattle.std.specs.Prelude.{◌≡◌, ℕ, ◌<◌, Bool, true, List, [], ◌∷◌, ◌++◌, Some, None, length, map}
 use Rattle.kem_trait.specs.declared.kem.Kem.{Ghosts}
 use Rattle.group_fields.specs.Cards.{card_id}
 use Rattle.group_fields.specs.Layouts.{Spells}
@@ -21,7 +21,7 @@ use Rattle.group_model.specs.Settings.{Owner}
 use Rattle.group_keys.specs.Primitives.{primitives_of}
 use Rattle.group_messages.specs.Messages.{kind_of}
 use Rattle.group_packets.specs.Packets.{addressed_of}
-use Rattle.causal_history.specs.Rows.{cards_of}
+use Rattle.causal_history.specs.Rows.{Row, cards_of}
 use Rattle.wire_codec.specs.Packets as packets
 use Rattle.wire_codec.specs.Packets.{Body, id_of}
 use Rattle.member_book.specs.Books.{BookState}
@@ -31,6 +31,7 @@ use Rattle.secret_book.specs.HeldBooks.{HeldBook}
 use Rattle.body_parts.specs.Receivers.{ids_to}
 use Rattle.body_parts.specs.Sending.{AreDrawnFrom}
 use Rattle.group_ops.specs.Making.{IsSeededBody}
+use Rattle.add_ops.specs.Making.{IsAddBody}
 use Rattle.reference_member.specs.Members.{Member, own_id, own_pair, public_key_by}
 use Rattle.reference_member.specs.Messages.{CarriesText, HandsOn}
 
@@ -81,3 +82,21 @@ pub record LacksDraws (K : Primitives) (ids : List Id) (bits : ℕ → Bool) (ra
   pub is : IsPlace ids place id
   pub among : bits place ≡ true
   pub none : draws K random id ≡ None
+
+-- how many parts an answer has at most
+abbrev pub GivesParts : HeaderKind → (greatest : ℕ) → Type 0
+GivesParts kinds.Create greatest = ⊥
+GivesParts kinds.Update greatest = ⊥
+GivesParts kinds.Remove greatest = ⊥
+GivesParts kinds.Add greatest = ⊥
+GivesParts kinds.Ack greatest = greatest ≡ 31
+GivesParts kinds.AddAck greatest = greatest ≡ 1
+GivesParts kinds.Text greatest = ⊥
+
+module _ {K P : Type 0} (kem : Ghosts K P) where
+  -- Bytes are the body of an add with the sender's ratchet, and with draws from a step's random bytes.
+  pub record IsAddNext (rows : List Row) (card : Card) (ratchet random : Bytes) (before after : HeldBook)
+      (bytes : Bytes) : Type 0 where
+    pub drawn : List Drawn
+    pub made : IsAddBody kem rows card ratchet drawn before after bytes
+    pub drawn_from : AreDrawnFrom (primitives_of kem) random drawn (card_id card ∷ [])

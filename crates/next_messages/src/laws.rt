@@ -1,6 +1,7 @@
 //! Laws of messages that are made next. Each function does nothing; its contract is the law.
 
 ghost use Rattle.std.specs.Prelude.{◌≡◌, ℕ, ◌<◌, Bool, true, false, List, ◌∷◌, ◌++◌, Some, length, map};
+ghost use Rattle.sha2.specs.Sha256.{sha256};
 ghost use Rattle.group_fields.specs.Cards.{card_id};
 ghost use Rattle.group_fields.specs.declared.card.Card.{Card};
 ghost use Rattle.group_fields.specs.declared.header.Header.{Header};
@@ -17,7 +18,7 @@ ghost use Rattle.group_model.specs.Parts.{part_sent, parts_of};
 ghost use Rattle.group_model.specs.Settings.{Owner};
 ghost use Rattle.group_keys.specs.Primitives.{primitives_of};
 ghost use Rattle.group_messages.specs.Messages.{kind_of, message_of};
-ghost use Rattle.group_packets.specs.Packets.{addressed_of};
+ghost use Rattle.group_packets.specs.Packets.{addressed_of, part_written};
 ghost use Rattle.causal_history.specs.Rows.{IsKept, Row, cards_of, history_of};
 ghost use Rattle.wire_codec.specs.Packets.{AddressedPart, Body};
 ghost use Rattle.member_book.specs.Books.{BookState};
@@ -31,6 +32,7 @@ ghost use Rattle.body_parts.specs.Receivers.{ArePlaced, AreReceivers, ids_to};
 ghost use Rattle.body_parts.specs.Sending.{AreDrawnFrom, AreMadeFor};
 ghost use Rattle.group_ops.specs.Making.{placed_by};
 ghost use Rattle.reference_member.specs.Members.{Member, known, own_id, own_pair, public_key_by};
+ghost use Rattle.reference_member.specs.Messages.{IsNext, MadeMessage};
 ghost use Rattle.next_messages.specs.Bodies.{HasNextBody, IsBookOf, IsSeededNext, SendsSeed};
 ghost use Rattle.next_messages.specs.Due.{IsDueTo, IsNew, message_with};
 ghost use Rattle.next_messages.specs.Headers.{HasNextHeader, IsNextHeader};
@@ -61,16 +63,16 @@ pub fn due_receivers_are_addressees()
 }
 
 /// Parts that were made by the book of a member with what a message of the kind carries are those that the reference
-/// member's next message has, where each receiver has a card.
+/// member's next message has, where each receiver has a card. The book may have moved before, but for its pairings.
 pub fn made_parts_are_the_next<K: Kem>()
     ensures { (M : Member) (cards : List Card) (O : Owner) (state : BookState)
         → IsBookOf ⟦<K as Kem>⟧ M (cards_of M.rows ++ cards) O state
         → (t : Given) (kind : MessageKind) (payload : Bytes)
-        → payload_of O t kind state ≡ Some payload
+        → payload_of O t kind state ≡ Some payload → (sealing : BookState) → sealing.events ≡ state.events
         → ((i : Id) → kind ≡ Ack i true → MayStill O.rule (hist M.log) i O.id)
         → (to : List Receiver) (drawn : List Drawn) (ids : List Id) (before after : HeldBook)
         (parts : List AddressedPart)
-        → AreMadeFor ⟦<K as Kem>⟧ to payload drawn before after parts → HeldStands ⟦<K as Kem>⟧ O ids before state
+        → AreMadeFor ⟦<K as Kem>⟧ to payload drawn before after parts → HeldStands ⟦<K as Kem>⟧ O ids before sealing
         → ArePlaced ids to → AreDrawnFrom (primitives_of ⟦<K as Kem>⟧) t.random drawn (ids_to to)
         → ((y : Id) → In y (ids_to to) → In y (map card_id (cards_of M.rows ++ cards)))
         → parts_of (part_sent (primitives_of ⟦<K as Kem>⟧) (own_pair ⟦<K as Kem>⟧ M) (own_id ⟦<K as Kem>⟧ M)
@@ -100,3 +102,15 @@ pub fn seeded_bodies_are_the_next<K: Kem>()
 {
     the_book_carries_what_is_sent();
 }
+
+/// A header that is the next, with the digest of its body, and a body that carries what the next does are the reference
+/// member's next message, where the parts are spelled by their bytes and no message before has its id.
+pub fn headers_and_bodies_are_the_next<K: Kem>()
+    ensures { (rule : History → List Id) (M : Member) (t : Given) (cards : List Card) (kind : Kind) (target : Target)
+        (made : MadeMessage) (addressees : List Id) → HasNextHeader ⟦<K as Kem>⟧ rule M t kind target made.header
+        → made.header.body.0 ≡ sha256 made.body
+        → HasNextBody ⟦<K as Kem>⟧ rule M t cards made.header addressees made.carried made.body
+        → AreAddressees rule (message_of made.header ∷ known M) (message_of made.header) addressees
+        → map (part_written ⟦<K as Kem>⟧) (map (addressed_of ⟦<K as Kem>⟧) made.carried.parts) ≡ made.carried.parts
+        → IsNew M.rows (message_of made.header) → IsNext ⟦<K as Kem>⟧ rule M t cards kind target made }
+{}

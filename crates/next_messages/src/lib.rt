@@ -3,15 +3,19 @@
 
 mod addressees;
 mod bodies;
+mod body_laws;
 mod header;
 mod laws;
 
 pub use addressees::{addressees_of, receivers_of};
-pub use bodies::next_seeded;
+pub use bodies::{next_add, next_seeded};
+pub use body_laws::{
+    add_bodies_are_the_next, answer_bodies_are_the_next, text_bodies_are_the_next,
+};
 pub use header::{next_header, with_body};
 pub use laws::{
-    due_receivers_are_addressees, made_parts_are_the_next, makers_are_left_out,
-    next_headers_are_the_models, seeded_bodies_are_the_next,
+    due_receivers_are_addressees, headers_and_bodies_are_the_next, made_parts_are_the_next,
+    makers_are_left_out, next_headers_are_the_models, seeded_bodies_are_the_next,
 };
 
 #[cfg(test)]
