@@ -5,3 +5,4 @@ pub mod Drawing
 pub mod Seeded
 pub mod Answered
 pub mod Added
+pub mod Forwarded

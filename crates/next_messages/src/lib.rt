@@ -2,12 +2,16 @@
 #![tactic(auto)]
 
 mod addressees;
+mod answer_laws;
 mod bodies;
 mod body_laws;
 mod header;
 mod laws;
 
 pub use addressees::{addressees_of, receivers_of};
+pub use answer_laws::{
+    forwarded_receivers_are_addressees, handed_receivers_are_few, some_are_due_by_their_kind,
+};
 pub use bodies::{next_add, next_seeded};
 pub use body_laws::{
     add_bodies_are_the_next, answer_bodies_are_the_next, text_bodies_are_the_next,
