@@ -3,12 +3,14 @@
 mod due;
 
 use crate::*;
-use causal_history::History;
+use causal_history::{Crowd, History};
 use group_fields::{
     Bytes, Cards, Digest, GroupId, Header, HeaderView, Ids, Kind, MemberId, Memory, Target,
     read_header, write_header,
 };
+use kem_trait::{Kem, SeedWords};
 use ntru_prime::Drill37;
+use secret_book::Book;
 use std::alloc::Global;
 use std::test::Fail;
 
@@ -223,6 +225,54 @@ fn over_rows(alloc: Global) -> Result<Vec<u8>, Fail> {
 fn digest_of(alloc: Global, body: &[u8]) -> Result<[u8; 32], Memory> {
     let header = with_body(probe(alloc, 1)?, body);
     Ok(header.body.0)
+}
+
+// The body of an update for nobody.
+fn body_for_nobody(
+    alloc: Global,
+    book: &mut Book<Drill37>,
+    history: &History,
+    header: &Header,
+) -> Result<Bytes, Fail> {
+    if !header.has_spelling() {
+        return Err(Fail::new("no header"));
+    }
+    let to = Crowd::new();
+    let cards = Cards::new(alloc);
+    let _places = history.places();
+    match header.kind {
+        Kind::Update => Ok(next_seeded::<Drill37>(
+            alloc, book, history, header, to, &cards, &RANDOM,
+        )?),
+        _ => Err(Fail::new("no update")),
+    }
+}
+
+// The same, by the book of a member that has met nobody.
+fn lone_update(alloc: Global, history: &History, header: &Header) -> Result<Bytes, Fail> {
+    let pair = Drill37::make(alloc, &mut SeedWords::new(&RANDOM))?;
+    let mut book = Book::<Drill37>::start(alloc, pair);
+    let body = body_for_nobody(alloc, &mut book, history, header);
+    book.close();
+    body
+}
+
+// The body of an update over the rows, for nobody.
+fn lone_body(alloc: Global) -> Result<Bytes, Fail> {
+    let mut history = History::new(alloc);
+    if !push_rows(alloc, &mut history)? {
+        return Err(Fail::new("a row can't be pushed"));
+    }
+    match next_update(&history, 1)? {
+        Some(header) => lone_update(alloc, &history, &header),
+        None => Err(Fail::new("no header")),
+    }
+}
+
+#[test]
+fn bodies_for_nobody_have_no_part(rt: HostRuntime) -> Result<(), Fail> {
+    assert_eq!(rt; lone_body(rt.alloc())?.as_slice(), [0].as_slice());
+    Ok(())
 }
 
 #[test]
