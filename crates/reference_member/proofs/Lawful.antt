@@ -192,7 +192,7 @@ module _ {K P : Type 0} (kem : Ghosts K P) (rule : History → List Id) where
 
   -- ---- runs
 
-  begins : (step : Step) (made : Option MadeMessage) (after : Member) → Accepts kem rule None step made after → Sound kem rule after
+  pub begins : (step : Step) (made : Option MadeMessage) (after : Member) → Accepts kem rule None step made after → Sound kem rule after
   begins step made after accepts = by step.input accepts.becomes
     where
       by : (input : Input) → BeginsBy kem rule input step.random made after → Sound kem rule after
@@ -204,7 +204,7 @@ module _ {K P : Type 0} (kem : Ghosts K P) (rule : History → List Id) where
       by (inputs.Send text) b = absurd b
       by (inputs.Take packet) b = absurd b
 
-  moves : (step : Step) (before : Member) (made : Option MadeMessage) (after : Member)
+  pub moves : (step : Step) (before : Member) (made : Option MadeMessage) (after : Member)
       → Accepts kem rule (Some before) step made after → Sound kem rule before → Sound kem rule after
   unfolding refusals_of
   moves step before made after accepts sound = by step.input accepts.refused_by_none accepts.becomes

@@ -20,3 +20,4 @@ pub mod OneRun
 pub mod CardsSpelled
 pub mod TakenEnters
 pub mod HeadsFew
+pub mod FewNamed

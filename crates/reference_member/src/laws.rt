@@ -54,12 +54,17 @@ pub fn owners_are_there<K: Kem>()
         → ((O : Owner) × IsOwner ⟦<K as Kem>⟧ rule M O) ⊎ HaveCollision (cards_of M.rows) }
 {}
 
-/// The history of a member after its steps has at most as many heads as it names members: of one sender each message
-/// has the older ones in its past, and each sender is named.
+/// The history of a member after its steps names at most 32 members, and has at most as many heads as it names: of one
+/// sender each message has the older ones in its past, and each sender is named.
 pub fn heads_are_few<K: Kem>()
-    ensures { (rule : History → List Id) (steps : List Step) (M : Member) (made : List MadeMessage) (O : Owner)
+    ensures named { (rule : History → List Id) (steps : List Step) (M : Member) (made : List MadeMessage)
+        → IsRunOf ⟦<K as Kem>⟧ rule steps (Some M) made → length (ids_named (known M)) ≤ 32 }
+    ensures by_named { (rule : History → List Id) (steps : List Step) (M : Member) (made : List MadeMessage) (O : Owner)
         → IsRunOf ⟦<K as Kem>⟧ rule steps (Some M) made → IsOwner ⟦<K as Kem>⟧ rule M O → (ids : List Id)
         → AreHeads (known M) ids → length ids ≤ length (ids_named (known M)) }
+    ensures few { (rule : History → List Id) (steps : List Step) (M : Member) (made : List MadeMessage) (O : Owner)
+        → IsRunOf ⟦<K as Kem>⟧ rule steps (Some M) made → IsOwner ⟦<K as Kem>⟧ rule M O → (ids : List Id)
+        → AreHeads (known M) ids → length ids ≤ 32 }
 {}
 
 /// Steps have one member and one list of messages.
