@@ -6,8 +6,8 @@ ghost use Rattle.body_parts.specs.Sending.{CanReach};
 use crate::{Receiver, append_part, can_reach, draw_for, parts_body, receivers};
 use causal_history::{Crowd, History};
 use group_fields::{
-    Bytes, Card, Cards, Digest, GroupId, Header, Ids, Kind, MemberId, Memory, Target, read_card,
-    read_header, write_card, write_header,
+    Bytes, Card, Cards, Digest, GroupId, Header, HeaderView, Ids, Kind, MemberId, Memory, Target,
+    read_card, read_header, write_card, write_header,
 };
 use kem_trait::{Kem, SeedWords};
 use ntru_prime::Drill37;
@@ -61,59 +61,86 @@ fn in_order(alloc: Global, count: u8) -> Result<Vec<u8>, Fail> {
     Ok(numbers)
 }
 
-/// Pushes a row of the first member with the cards of these numbers.
-fn push(
-    alloc: Global,
-    history: &mut History,
-    kind: Kind,
-    target: Target,
-    numbers: &[u8],
-) -> Result<(), Fail> {
-    let mut predecessors = Vec::new(alloc);
-    if history.count() > 0 {
-        predecessors.push(history.id(0).0)?;
-    }
-    let header = Header {
-        set: 2,
-        group: GroupId(Digest([9; 32])),
-        sender: MemberId(Digest([1; 32])),
-        seq: history.count() + 1,
-        kind,
-        target,
-        predecessors: Ids::from(predecessors),
-        body: Digest([7; 32]),
-    };
-    if !header.has_spelling() {
-        return Err(Fail::new("no header"));
-    }
-    let bytes = write_header(alloc, &header)?;
+/// The cards of these numbers.
+fn cards_of(alloc: Global, numbers: &[u8]) -> Result<Cards, Fail> {
     let mut cards = Cards::new(alloc);
     for number in numbers {
         if let Ok(card) = read_card(card_bytes(alloc, *number)?.as_slice()) {
             cards.push(&card)?;
         }
     }
-    match read_header(bytes.as_slice()) {
-        Ok(view) if history.may_push(&view, &cards)? => Ok(history.push(&view, &cards)?),
-        _ => Err(Fail::new("a row that may not be pushed")),
-    }
+    Ok(cards)
 }
 
-/// A history that names the members of these cards, in the order of their ids.
-fn history_of(alloc: Global, numbers: &[u8]) -> Result<History, Fail> {
-    let mut ids = Vec::new(alloc);
+/// The ids of these members.
+fn ids_of(alloc: Global, numbers: &[u8]) -> Result<Ids, Fail> {
+    let mut ids = Ids::new(alloc);
     for number in numbers {
         ids.push(id_of(alloc, *number)?)?;
     }
-    let mut history = History::new(alloc);
-    push(
-        alloc,
-        &mut history,
-        Kind::Create,
-        Target::Members(Ids::from(ids)),
-        numbers,
-    )?;
-    Ok(history)
+    Ok(ids)
+}
+
+/// The first row, where there is one.
+fn first_row(alloc: Global, history: &History) -> Result<Ids, Fail> {
+    let mut ids = Ids::new(alloc);
+    if history.count() > 0 {
+        ids.push(history.id(0).0)?;
+    }
+    Ok(ids)
+}
+
+/// The header of the first member's next message.
+fn header_of(alloc: Global, history: &History, kind: Kind, target: Target) -> Result<Header, Fail> {
+    Ok(Header {
+        set: 2,
+        group: GroupId(Digest([9; 32])),
+        sender: MemberId(Digest([1; 32])),
+        seq: history.count().wrapping_add(1),
+        kind,
+        target,
+        predecessors: first_row(alloc, history)?,
+        body: Digest([7; 32]),
+    })
+}
+
+fn header_bytes(alloc: Global, header: &Header) -> Result<Bytes, Fail> {
+    if !header.has_spelling() {
+        return Err(Fail::new("no header"));
+    }
+    Ok(write_header(alloc, header)?)
+}
+
+/// Pushes a row.
+fn push_view(history: &mut History, header: &HeaderView<'_>, cards: &Cards) -> Result<(), Fail> {
+    if !history.may_push(header, cards)? {
+        return Err(Fail::new("a row that may not be pushed"));
+    }
+    Ok(history.push(header, cards)?)
+}
+
+/// Pushes the row of a header with the cards of these numbers.
+fn push(alloc: Global, history: &mut History, header: &Header, numbers: &[u8]) -> Result<(), Fail> {
+    let bytes = header_bytes(alloc, header)?;
+    let cards = cards_of(alloc, numbers)?;
+    match read_header(bytes.as_slice()) {
+        Ok(view) => push_view(history, &view, &cards),
+        Err(_) => Err(Fail::new("no header")),
+    }
+}
+
+/// Opens the group of the members of these cards, in the order of their ids.
+fn create(alloc: Global, history: &mut History, numbers: &[u8]) -> Result<(), Fail> {
+    let members = Target::Members(ids_of(alloc, numbers)?);
+    let header = header_of(alloc, history, Kind::Create, members)?;
+    push(alloc, history, &header, numbers)
+}
+
+/// Adds the member of a card.
+fn add(alloc: Global, history: &mut History, number: u8) -> Result<(), Fail> {
+    let target = Target::Member(MemberId(id_of(alloc, number)?));
+    let header = header_of(alloc, history, Kind::Add, target)?;
+    push(alloc, history, &header, &[number])
 }
 
 fn pair(alloc: Global, number: u8) -> Result<<Drill37 as Kem>::Pair, Fail> {
@@ -216,8 +243,8 @@ fn part_at(bytes: &[u8], at: usize) -> &[u8] {
     }
 }
 
-/// A history of three members, with the cards of the least and of the greatest id. The places are of the second id, of
-/// the greatest, and of the least.
+/// A history of three members, with the numbers of the cards of the least and of the greatest id. The places are of the
+/// second id, of the greatest, and of the least.
 #[derive(Drop)]
 struct SmallGroup {
     history: History,
@@ -225,18 +252,28 @@ struct SmallGroup {
     most: u8,
 }
 
+/// The numbers of three cards, in the order of their ids.
+fn three(alloc: Global) -> Result<(u8, u8, u8), Fail> {
+    match in_order(alloc, 3)?.as_slice() {
+        [least, own, most] => Ok((*least, *own, *most)),
+        _ => Err(Fail::new("three numbers")),
+    }
+}
+
+/// A member adds the one with the least id to a group of its own and the one with the greatest.
+fn small_history(alloc: Global, least: u8, own: u8, most: u8) -> Result<History, Fail> {
+    let mut history = History::new(alloc);
+    create(alloc, &mut history, &[own, most])?;
+    add(alloc, &mut history, least)?;
+    Ok(history)
+}
+
 fn small_group(alloc: Global) -> Result<SmallGroup, Fail> {
-    let numbers = in_order(alloc, 3)?;
-    let [least, own, most] = numbers.as_slice() else {
-        return Err(Fail::new("three numbers"));
-    };
-    let mut history = history_of(alloc, &[*own, *most])?;
-    let added = Target::Member(MemberId(id_of(alloc, *least)?));
-    push(alloc, &mut history, Kind::Add, added, &[*least])?;
+    let (least, own, most) = three(alloc)?;
     Ok(SmallGroup {
-        history,
-        least: *least,
-        most: *most,
+        history: small_history(alloc, least, own, most)?,
+        least,
+        most,
     })
 }
 
@@ -273,17 +310,43 @@ fn meet_three(
     meet_all(alloc, cyd, &[1])
 }
 
+/// The parts of ada to bob and cyd.
+fn to_both(
+    alloc: Global,
+    ada: &mut Drill,
+    bob: &mut Drill,
+    cyd: &mut Drill,
+    group: &SmallGroup,
+) -> Result<bool, Fail> {
+    let both = body(alloc, ada, &group.history, Crowd::new().with(1).with(2))?;
+    let stand = two_stand(alloc, both.as_slice(), group)?;
+    Ok(both_open(alloc, both.as_slice(), bob, cyd)? && stand)
+}
+
+/// The body for nobody.
+fn to_nobody(alloc: Global, ada: &mut Drill, group: &SmallGroup) -> Result<bool, Fail> {
+    let nobody = body(alloc, ada, &group.history, Crowd::new())?;
+    Ok(nobody.as_slice() == [0].as_slice())
+}
+
+/// A part to cyd alone.
+fn to_cyd(
+    alloc: Global,
+    ada: &mut Drill,
+    cyd: &mut Drill,
+    group: &SmallGroup,
+) -> Result<bool, Fail> {
+    let alone = first_part(alloc, ada, &group.history, Crowd::new().with(2))?;
+    alone_opens(alloc, alone.as_slice(), cyd)
+}
+
 /// The parts of ada to bob and cyd, to nobody, and to cyd alone.
 fn story(alloc: Global, ada: &mut Drill, bob: &mut Drill, cyd: &mut Drill) -> Result<bool, Fail> {
     meet_three(alloc, ada, bob, cyd)?;
     let group = small_group(alloc)?;
-    let both = body(alloc, ada, &group.history, Crowd::new().with(1).with(2))?;
-    let nobody = body(alloc, ada, &group.history, Crowd::new())?;
-    let alone = first_part(alloc, ada, &group.history, Crowd::new().with(2))?;
-    let stand = two_stand(alloc, both.as_slice(), &group)?;
-    let open = both_open(alloc, both.as_slice(), bob, cyd)?;
-    let last = alone_opens(alloc, alone.as_slice(), cyd)?;
-    Ok(stand && open && last && nobody.as_slice() == [0].as_slice())
+    let both = to_both(alloc, ada, bob, cyd, &group)?;
+    let nobody = to_nobody(alloc, ada, &group)?;
+    Ok(to_cyd(alloc, ada, cyd, &group)? && both && nobody)
 }
 
 #[test]
@@ -302,25 +365,47 @@ fn parts_of_a_small_group(rt: HostRuntime) -> Result<(), Fail> {
     Ok(())
 }
 
+/// A history of 32 members.
+fn large_history(alloc: Global, numbers: &[u8]) -> Result<History, Fail> {
+    let mut history = History::new(alloc);
+    create(alloc, &mut history, numbers)?;
+    Ok(history)
+}
+
+/// All but the first of 32 places.
+fn all_others() -> Crowd {
+    let mut to = Crowd::new();
+    for place in 1..32 {
+        to = to.with(place);
+    }
+    to
+}
+
+/// The body for all but the first of 32 members.
+fn large_body(alloc: Global, ada: &mut Drill, numbers: &[u8]) -> Result<Bytes, Fail> {
+    let history = large_history(alloc, numbers)?;
+    body(alloc, ada, &history, all_others())
+}
+
+/// Whether the ids of all but the first member stand, one part apart.
+fn all_stand(alloc: Global, bytes: &[u8], numbers: &[u8]) -> Result<bool, Fail> {
+    let mut right = bytes.len() == 9022 && bytes.first() == Some(&31);
+    let mut at = 1usize;
+    for number in numbers.get(1..).unwrap_or(&[]) {
+        right = names(alloc, bytes, at, *number)? && right;
+        at = at.wrapping_add(291);
+    }
+    Ok(right && at == 9022)
+}
+
 /// A body for all but the first of 32 members, who have one pair.
 fn crowded(alloc: Global, ada: &mut Drill, bob: &mut Drill) -> Result<bool, Fail> {
     meet_all(alloc, ada, &[2; 31])?;
     meet_all(alloc, bob, &[1])?;
     let numbers = in_order(alloc, 32)?;
-    let history = history_of(alloc, numbers.as_slice())?;
-    let mut to = Crowd::new();
-    for place in 1..32 {
-        to = to.with(place);
-    }
-    let all = body(alloc, ada, &history, to)?;
-    let bytes = all.as_slice();
-    let mut right = bytes.len() == 9022 && bytes.first() == Some(&31);
-    let mut at = 1;
-    for number in numbers.iter().skip(1) {
-        right = right && names(alloc, bytes, at, *number)?;
-        at = at.wrapping_add(291);
-    }
-    Ok(right && opens(alloc, bob, part_at(bytes, 8763))?)
+    let all = large_body(alloc, ada, numbers.as_slice())?;
+    let right = all_stand(alloc, all.as_slice(), numbers.as_slice())?;
+    Ok(opens(alloc, bob, part_at(all.as_slice(), 8763))? && right)
 }
 
 #[test]
