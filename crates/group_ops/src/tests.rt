@@ -2,6 +2,7 @@
 //! knows then, against the definition of a ratchet's step.
 
 mod making;
+mod spoiling;
 
 ghost use Rattle.std.specs.Prelude.{◌≡◌, ◌<◌, ◌∷◌, ◌↔◌, ℕ, IsTrue, IsSome, true, length};
 ghost use Rattle.causal_history.specs.Rows.{history_of};

@@ -1,4 +1,5 @@
-//! Bodies that carry a seed: those of creates of one, two and three, whose parts the others take, and that of an update.
+//! Bodies that carry a seed: those of creates of one, two and three, whose parts the others take, and that of an
+//! update.
 ghost use Rattle.std.specs.Prelude.{◌≡◌, All, IfOk, IsTrue, map};
 ghost use Rattle.causal_history.specs.Rows.{history_of};
 ghost use Rattle.group_fields.specs.Cards.{card_id};
@@ -19,14 +20,14 @@ use std::alloc::Global;
 use std::test::Fail;
 
 /// The bytes of a card and of a part of this set, and of a part behind its id.
-const CARD: usize = 124;
+pub(super) const CARD: usize = 124;
 
 const PART: usize = 259;
 
 const ADDRESSED: usize = 291;
 
 /// The number of the seed that a body carries.
-const CARRIED: u8 = 20;
+pub(super) const CARRIED: u8 = 20;
 
 fn refused() -> Fail {
     Fail::new("a body that may not be made")
@@ -89,7 +90,7 @@ fn created(
 }
 
 /// The body of an update for a crowd, or, plain, of parts alone with the same draws.
-fn updated(
+pub(super) fn updated(
     alloc: Global,
     book: &mut Drill,
     history: &History,
@@ -111,7 +112,7 @@ fn updated(
 }
 
 /// All but the first of so many members.
-fn others(count: u8) -> Crowd {
+pub(super) fn others(count: u8) -> Crowd {
     let mut to = Crowd::new();
     for place in 1..3 {
         if place < count {
@@ -122,7 +123,7 @@ fn others(count: u8) -> Crowd {
 }
 
 /// Meets so many members, of whom the one at a place is the owner: their pairs have the numbers of their places.
-fn meet_places(alloc: Global, book: &mut Drill, count: u8, own: u8) -> Result<(), Fail> {
+pub(super) fn meet_places(alloc: Global, book: &mut Drill, count: u8, own: u8) -> Result<(), Fail> {
     for place in 0..count {
         if place == own {
             meet_own(alloc, book)?;
@@ -134,7 +135,12 @@ fn meet_places(alloc: Global, book: &mut Drill, count: u8, own: u8) -> Result<()
 }
 
 /// The body of a group's create by the first of its members.
-fn create_with(alloc: Global, book: &mut Drill, group: &Group, count: u8) -> Result<Bytes, Fail> {
+pub(super) fn create_with(
+    alloc: Global,
+    book: &mut Drill,
+    group: &Group,
+    count: u8,
+) -> Result<Bytes, Fail> {
     meet_places(alloc, book, count, 0)?;
     let Ok(create) = read_header(group.create.as_slice()) else {
         return Err(refused());
@@ -200,7 +206,7 @@ fn parts_stand(group: &Group, body: &[u8], at: usize, count: u8) -> bool {
 }
 
 /// The part for the member at a place, behind the first, where the parts stand from a place on.
-fn part_for(body: &[u8], at: usize, place: u8) -> &[u8] {
+pub(super) fn part_for(body: &[u8], at: usize, place: u8) -> &[u8] {
     let before = ADDRESSED * place as usize;
     piece(body, at.wrapping_add(before).wrapping_sub(PART - 1), PART)
 }
