@@ -84,6 +84,7 @@ module _ {K P : Type 0} (kem : Ghosts K P) (rule : History → List Id) (M : Mem
               ])
               made.drawn_from
               (λ z i. subst (λ l. In z l) (sym (map-both card_id (cards_of M.rows) (card ∷ []))) (In-right (map card_id (cards_of M.rows)) i));
+          written = made.made.made.written;
           handed_on = subst (λ k. HandsOn kem rule M t k (Some made.made.welcome)) (sym adds) (made.made.welcome, refl, made.made.handed_on);
           text = subst (λ k. CarriesText kem rule M t k None) (sym adds) refl;
         },

@@ -101,6 +101,7 @@ module _ {K P : Type 0} (kem : Ghosts K P) (rule : History → List Id) (M : Mem
               after made.parts made.made stands made.receivers.placed drawn_from
               (λ y i. has-card M.rows kept [] y (place-in ids (receiver-at ids bits made.to made.receivers y i).0 y
               (receiver-at ids bits made.to made.receivers y i).1));
+          written = made.made.written;
           handed_on = none-handed greatest header.kind header.target gives;
           text = no-text greatest header.kind header.target gives;
         }
@@ -113,6 +114,7 @@ module _ {K P : Type 0} (kem : Ghosts K P) (rule : History → List Id) (M : Mem
           spelled = subst (λ z. Spells (packets.body kem.SET header.kind header.target) bytes (with_parts z)) parts spells;
           cards_are = refl;
           parts = refl;
+          written = refl;
           handed_on = none-handed greatest header.kind header.target gives;
           text = no-text greatest header.kind header.target gives;
         }
@@ -139,6 +141,7 @@ module _ {K P : Type 0} (kem : Ghosts K P) (rule : History → List Id) (M : Mem
               (subst (λ z. Spells z bytes carried) (text-layout kem.SET header.target) made.spelled);
           cards_are = refl;
           parts = refl;
+          written = refl;
           handed_on = subst (λ k. HandsOn kem rule M t (kind_by k header.target) None) (sym is) refl;
           text = subst (λ k. CarriesText kem rule M t (kind_by k header.target) (Some made.carried)) (sym is) (
             made.carried,

@@ -123,6 +123,7 @@ module _ {K P : Type 0} (kem : Ghosts K P) (rule : History → List Id) (M : Mem
               body.made stands body.receivers.placed made.drawn_from
               (λ y i. has-card M.rows kept cards y (place-in ids (receiver-at ids bits body.to body.receivers y i).0 y
               (receiver-at ids bits body.to body.receivers y i).1));
+          written = body.made.written;
           handed_on = none-handed header.kind header.target cards seeds;
           text = no-text header.kind header.target cards seeds;
         },

@@ -20,7 +20,7 @@ use Rattle.group_model.specs.Primitives.{Primitives}
 use Rattle.group_model.specs.Settings.{Owner}
 use Rattle.group_keys.specs.Primitives.{primitives_of}
 use Rattle.group_messages.specs.Messages.{kind_of}
-use Rattle.group_packets.specs.Packets.{addressed_of}
+use Rattle.group_packets.specs.Packets.{addressed_of, part_written}
 use Rattle.causal_history.specs.Rows.{Row, cards_of}
 use Rattle.wire_codec.specs.Packets as packets
 use Rattle.wire_codec.specs.Packets.{Body, id_of}
@@ -53,6 +53,8 @@ module _ {K P : Type 0} (kem : Ghosts K P) (rule : History → List Id) (M : Mem
     pub parts : parts_of (part_sent (primitives_of kem) (own_pair kem M) (own_id kem M)
         (public_key_by (cards_of M.rows ++ cards)) M.log t (kind_of header)) addressees
         ≡ Some (map (addressed_of kem) carried.parts)
+    -- spelled by its bytes
+    pub written : map (part_written kem) (map (addressed_of kem) carried.parts) ≡ carried.parts
     pub handed_on : HandsOn kem rule M t (kind_of header) carried.history
     pub text : CarriesText kem rule M t (kind_of header) carried.text
 

@@ -18,7 +18,7 @@ ghost use Rattle.group_model.specs.Parts.{part_sent, parts_of};
 ghost use Rattle.group_model.specs.Settings.{Owner};
 ghost use Rattle.group_keys.specs.Primitives.{primitives_of};
 ghost use Rattle.group_messages.specs.Messages.{kind_of, message_of};
-ghost use Rattle.group_packets.specs.Packets.{addressed_of, part_written};
+ghost use Rattle.group_packets.specs.Packets.{addressed_of};
 ghost use Rattle.causal_history.specs.Rows.{IsKept, Row, cards_of, history_of};
 ghost use Rattle.wire_codec.specs.Packets.{AddressedPart, Body};
 ghost use Rattle.member_book.specs.Books.{BookState};
@@ -104,13 +104,12 @@ pub fn seeded_bodies_are_the_next<K: Kem>()
 }
 
 /// A header that is the next, with the digest of its body, and a body that carries what the next does are the reference
-/// member's next message, where the parts are spelled by their bytes and no message before has its id.
+/// member's next message, where no message before has its id.
 pub fn headers_and_bodies_are_the_next<K: Kem>()
     ensures { (rule : History → List Id) (M : Member) (t : Given) (cards : List Card) (kind : Kind) (target : Target)
         (made : MadeMessage) (addressees : List Id) → HasNextHeader ⟦<K as Kem>⟧ rule M t kind target made.header
         → made.header.body.0 ≡ sha256 made.body
         → HasNextBody ⟦<K as Kem>⟧ rule M t cards made.header addressees made.carried made.body
         → AreAddressees rule (message_of made.header ∷ known M) (message_of made.header) addressees
-        → map (part_written ⟦<K as Kem>⟧) (map (addressed_of ⟦<K as Kem>⟧) made.carried.parts) ≡ made.carried.parts
         → IsNew M.rows (message_of made.header) → IsNext ⟦<K as Kem>⟧ rule M t cards kind target made }
 {}

@@ -4,7 +4,7 @@ use Rattle.wire_codec.specs.Packets as packets
 use Rattle.next_messages.proofs.laws.headers_and_bodies_are_the_next.Goals as goal
 
 pub returns : goal.returns
-returns g c = λ rule M t cards kind target made addressees header digest body to_whom written new. record {
+returns g c = λ rule M t cards kind target made addressees header digest body to_whom new. record {
   set = header.set;
   group = header.group;
   sender = header.sender;
@@ -20,7 +20,7 @@ returns g c = λ rule M t cards kind target made addressees header digest body t
   addressees = addressees;
   to_whom = to_whom;
   parts = body.parts;
-  written = written;
+  written = body.written;
   handed_on = body.handed_on;
   text = body.text;
   new = new;
