@@ -78,7 +78,7 @@ use Sort::{
 /// number; who signs it, and by which leaf.
 type Told = (u8, u8, Sort, u8, &'static [u8], u8, u8, u8);
 
-const MESSAGES: [Told; 87] = [
+const MESSAGES: [Told; 89] = [
     // A group, and what is done in it.
     (ADA, 1, Create, 7, &[], 6, ADA, 0),
     (BOB, 1, Ack, 0, &[0], 0, BOB, 0),
@@ -177,10 +177,13 @@ const MESSAGES: [Told; 87] = [
     (ADA, 2, Add, DORA, &[1, 2], 0, ADA, 2),
     (ADA, 2, Add, DORA, &[1, 2], 0, BOB, 1),
     (ADA, 2, Add, ADA, &[1, 2], 0, ADA, 1),
+    // Another third row than the one that the fourth names.
+    (CYD, 1, Refusal, 0, &[0], 0, CYD, 0),
+    (ADA, 3, Add, DORA, &[87, 3], 34, ADA, 2),
 ];
 
 /// Histories that are handed on: whose cards, by a bit for each person, and the rows.
-const HISTORIES: [(u8, &[u8]); 34] = [
+const HISTORIES: [(u8, &[u8]); 35] = [
     (7, &[0, 1, 2]),
     (0, &[]),
     (3, &[0, 1, 2]),
@@ -215,6 +218,7 @@ const HISTORIES: [(u8, &[u8]); 34] = [
     (7, &[0, 1, 2, 4]),
     (7, &[14]),
     (39, &[0, 1, 2, 70]),
+    (7, &[0, 1, 87, 3]),
 ];
 
 /// What is to be found: a verdict, that the history is refused at a row, or that a message is forked with another.
@@ -230,7 +234,7 @@ use Wanted::{Forks, Is, Row};
 /// A case: the message, who judges, its inviter, whether the last byte is changed, and what is to be found.
 type Case = (u8, u8, u8, bool, Wanted);
 
-const CASES: [Case; 83] = [
+const CASES: [Case; 84] = [
     // Invitations.
     (0, BOB, ADA, false, Is(Ready)),
     (0, CYD, ADA, false, Is(Ready)),
@@ -304,6 +308,7 @@ const CASES: [Case; 83] = [
     (68, DORA, ADA, false, Row(4)),
     (69, DORA, ADA, false, Row(2)),
     (71, DORA, ADA, false, Row(4)),
+    (88, DORA, ADA, false, Row(4)),
     // Predecessors.
     (72, DORA, ADA, false, Row(4)),
     (73, DORA, ADA, false, Row(4)),
