@@ -1,5 +1,5 @@
-//! What a member of a small group holds and learns: it takes a create and answers it, updates and takes the answer, and,
-//! as another, joins by an add. Secrets are those of the definition of a ratchet's step.
+//! What a member of a small group holds and learns: it takes a create and answers it, updates and takes the answer,
+//! and, as another, joins by an add. Secrets are those of the definition of a ratchet's step.
 
 ghost use Rattle.std.specs.Prelude.{◌≡◌, ◌<◌, ◌∷◌, ◌≢◌, ℕ, IsTrue, IsSome, IfSome, true, length};
 ghost use Rattle.causal_history.specs.Rows.{history_of};

@@ -1,5 +1,5 @@
-//! Members that a book meets: those of a new group, who is added to one, and those of a history that is handed on. Their
-//! places in the book are those in the history.
+//! Members that a book meets: those of a new group, who is added to one, and those of a history that is handed on.
+//! Their places in the book are those in the history.
 #![tactic(auto)]
 
 mod meeting;

@@ -1,4 +1,5 @@
-ghost use Rattle.std.specs.Prelude.{◌≡◌, ◌↔◌, ◌≤◌, ◌<◌, ◌∷◌, ◌+◌, ◌++◌, ℕ, true, List, [], length, map, take, IsTrue, IfOk, OnOk};
+ghost use Rattle.std.specs.Prelude.{◌≡◌, ◌↔◌, ◌≤◌, ◌<◌, ◌∷◌, ◌+◌, ◌++◌, ℕ, true, List, [], length, map, take};
+ghost use Rattle.std.specs.Prelude.{IsTrue, IfOk, OnOk};
 ghost use Rattle.group_fields.specs.Cards.{HasSpelling, card_id};
 ghost use Rattle.group_fields.specs.declared.card.Card.{Card};
 ghost use Rattle.group_model.specs.Membership.{ids_named, joined, with_id};
@@ -119,8 +120,8 @@ pub fn meet_founders<K: Kem>(
     meet_each(alloc, book, me, cards.as_slice())
 }
 
-/// Meets who is added to a group, where the history doesn't name it yet. All whom the history names were met; the key on
-/// the card is a public key.
+/// Meets who is added to a group, where the history doesn't name it yet. All whom the history names were met; the key
+/// on the card is a public key.
 ///
 /// `Memory` where an allocation was refused; then the book is as before.
 pub fn meet_added<K: Kem>(
@@ -155,8 +156,8 @@ fn meet_place<K: Kem>(
     requires met { AreMet (take place (ids_named (history_of history.now))) me.now.0.0 book.old }
     requires keys { (card : Card) → In card (cards_of history.now) → K.is_public card.kem_public ≡ true }
     ensures { OnOk result (MeetsMore ⟦<K as Kem>⟧ me.now.0.0 (cards_of history.now)
-        (take place (ids_named (history_of history.now))) (take (place + 1) (ids_named (history_of history.now))) book.old
-        book.new) }
+        (take place (ids_named (history_of history.now))) (take (place + 1) (ids_named (history_of history.now)))
+        book.old book.new) }
 {
     cards_are_of_their_ids();
     let few = history.places();
@@ -165,8 +166,8 @@ fn meet_place<K: Kem>(
     meet_one(alloc, book, me, &id, card.kem_public())
 }
 
-/// Meets all members that a history names, in the order of their places. No place was met before; the keys on their cards
-/// are public keys.
+/// Meets all members that a history names, in the order of their places. No place was met before; the keys on their
+/// cards are public keys.
 ///
 /// `Memory` where an allocation was refused; then the book is only to be closed.
 pub fn meet_history<K: Kem>(

@@ -77,8 +77,8 @@ pub fn runs_are_one<K: Kem>()
         → IsRunOf ⟦<K as Kem>⟧ rule steps N others → made ≡ others }
 {}
 
-/// What a packet of another leaves that nothing refuses, before it is answered: its message is the newest of the history,
-/// the log with its entry is lawful, and where its part opened the ack may take the operation's secret.
+/// What a packet of another leaves that nothing refuses, before it is answered: its message is the newest of the
+/// history, the log with its entry is lawful, and where its part opened the ack may take the operation's secret.
 pub fn ready_packets_enter<K: Kem>()
     ensures { (rule : History → List Id) (steps : List Step) (M : Member) (made : List MadeMessage) (bytes : Bytes)
         (packet : Packet) → IsRunOf ⟦<K as Kem>⟧ rule steps (Some M) made → IsPacket packet bytes

@@ -1,5 +1,6 @@
 //! The reference member: what a member is after its steps, which steps it accepts, what it refuses and why, and what
-//! each step makes. Definitions, laws on them, and the words of a step and of a refusal; no code of a member stands here.
+//! each step makes. Definitions, laws on them, and the words of a step and of a refusal; no code of a member stands
+//! here.
 #![tactic(auto)]
 
 mod input;
