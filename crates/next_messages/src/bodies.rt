@@ -32,8 +32,8 @@ use std::alloc::Global;
 /// seed and the draws that the step's 32 random bytes give.
 ///
 /// The places of the crowd are those of the history and behind it those of the header; each can be reached.
-/// `NoUsableKey` only where the random bytes give no usable key for one of the crowd. `Memory` where an allocation was
-/// refused; then the book may have moved, and is only to be closed.
+/// `NoUsableKey` only where the random bytes give no usable key for one of the crowd; then the book is as it was. `Memory`
+/// where an allocation was refused; then the book may have moved, and is only to be closed.
 pub fn next_seeded<K: Kem>(
     alloc: Global,
     book: &mut Book<K>,
@@ -54,6 +54,7 @@ pub fn next_seeded<K: Kem>(
         random.now (held book.old) (held book.new)) }
     ensures unusable { IsErrOf result KemRefusal.NoUsableKey → LacksDraws (primitives_of ⟦<K as Kem>⟧)
         (ids_named (message_of header.now ∷ history_of history.now)) (bit to.0) random.now }
+    ensures unmoved { IsErrOf result KemRefusal.NoUsableKey → book.new ≡ book.old }
 {
     let receivers = receivers_of(alloc, history, header, to)?;
     let draws = draw_for::<K>(alloc, random, receivers.as_slice())?;
