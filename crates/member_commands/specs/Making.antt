@@ -1,5 +1,5 @@
--- What the call of a command makes: the member's next message, and the history and the book with it. docs/GROUP.md, "The
--- reference member" and "The book of a member".
+-- What the call of a command makes: the member's next message, and the history and the book with it. docs/GROUP.md,
+-- "The reference member" and "The book of a member".
 use Rattle.std.specs.Prelude.{◌≡◌, ℕ, Bool, List, [], Option}
 use Rattle.kem_trait.specs.declared.kem.Kem.{Ghosts}
 use Rattle.sha2.specs.Sha256.{sha256}

@@ -12,7 +12,7 @@ use Rattle.group_model.specs.Membership.{ids_named}
 use Rattle.group_keys.specs.Primitives.{primitives_of}
 use Rattle.group_messages.specs.Messages.{message_of}
 use Rattle.causal_history.specs.Rows.{Row, history_of}
-use Rattle.secret_book.specs.HeldBooks.{HeldBook}
+use Rattle.secret_book.specs.HeldBooks.{BookTable, HeldBook}
 use Rattle.body_parts.specs.Sending.{CanReach}
 use Rattle.next_messages.specs.Bodies.{LacksDraws}
 use Rattle.next_messages.specs.Due.{IsDueTo}
@@ -24,6 +24,13 @@ use Rattle.member_commands.specs.declared.refusal.NotMade.TheVariants.{Memory, N
 abbrev pub by_kem : KemRefusal → NotMade
 by_kem kems.NoUsableKey = NoUsableKey
 by_kem kems.Memory = Memory
+
+-- With these refusals nothing was sealed yet, and the book is as it was.
+abbrev pub StaysAfter : NotMade → (before after : BookTable) → Type 0
+StaysAfter NoUsableKey before after = after ≡ before
+StaysAfter Repeated before after = Unit {0}
+StaysAfter Unfit before after = after ≡ before
+StaysAfter Memory before after = Unit {0}
 
 -- parts can be sent to the places below the number that have their bits
 abbrev pub AreReached : HeldBook → (count : ℕ) → (bits : ℕ → Bool) → Type 0

@@ -20,9 +20,9 @@ use member_book::laws::{
     calls_make_the_book, the_book_carries_what_is_sent, the_book_stands_for_its_log,
 };
 
-/// What was done for a command is what the command makes: whatever member after steps has this history and this book, and
-/// is refused the input by nothing, the message is its next, and what was made of the history and of the book is what they
-/// are with it.
+/// What was done for a command is what the command makes: whatever member after steps has this history and this book,
+/// and is refused the input by nothing, the message is its next, and what was made of the history and of the book is
+/// what they are with it.
 pub fn commands_make_the_next<K: Kem>()
     ensures { (rule : History → List Id) → IsMembershipRule rule → (rows : List Row) (random : Bytes) (me : Id)
         (place : ℕ) (kind : Kind) (target : Target) (header : Header) (body : Bytes) (before sealed after : HeldBook)

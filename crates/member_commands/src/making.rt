@@ -14,7 +14,7 @@ ghost use Rattle.reference_member.specs.Steps.{Input};
 ghost use Rattle.next_messages.specs.Due.{IsNew};
 ghost use Rattle.member_commands.specs.Commands.{AsksFor, IsPlain, MayMake, given_to};
 ghost use Rattle.member_commands.specs.Making.{IsTakenBy, IsWritten, MakesNext, plain_row};
-ghost use Rattle.member_commands.specs.Refusing.{IsUnmade, IsUntaken};
+ghost use Rattle.member_commands.specs.Refusing.{IsUnmade, IsUntaken, StaysAfter};
 
 use crate::laws::commands_make_the_next;
 use crate::refusal::NotMade;
@@ -28,8 +28,8 @@ use next_messages::with_body;
 use secret_book::Book;
 use std::alloc::Global;
 
-/// A message that a member made: the bytes of its header and of its body, its id, its number among the member's own, and
-/// the own update secret, `None` where the own ratchet isn't known.
+/// A message that a member made: the bytes of its header and of its body, its id, its number among the member's own,
+/// and the own update secret, `None` where the own ratchet isn't known.
 #[derive(Drop)]
 pub struct MadeNext {
     pub header: Bytes,
@@ -82,14 +82,16 @@ fn finish<K: Kem, G: Membership>(
     })
 }
 
-/// Makes an update or a remove as a member's next message, with a step's 32 random bytes: its header, its body with a part
-/// for each whom it is due to, and the own ratchet's step. The history gets its row, and the book is the one after it.
+/// Makes an update or a remove as a member's next message, with a step's 32 random bytes: its header, its body with a
+/// part for each whom it is due to, and the own ratchet's step. The history gets its row, and the book is the one after
+/// it.
 ///
 /// The place is the member's own in the history, the book has met exactly whom the history names, and there is room for
 /// one row more. Whatever member after steps has this id, this history and this book, where nothing refuses it the
 /// command: the message is the one that it makes.
 ///
-/// After an error the history is as it was; the book may have moved, and is only to be closed.
+/// After an error the history is as it was. The book is as it was with `NoUsableKey` and `Unfit`; with `Repeated` and
+/// `Memory` it may have moved, and is only to be closed.
 pub fn make_seeded_message<K: Kem, G: Membership>(
     alloc: Global,
     history: &mut History,
@@ -113,6 +115,7 @@ pub fn make_seeded_message<K: Kem, G: Membership>(
     ensures kept { OnErr result (history.new ≡ history.old) }
     ensures refused { IfErr result (IsUnmade ⟦<K as Kem>⟧ G.rule history.old random.now me.now.0.0 kind target
         (held book.old)) }
+    ensures unmoved { IfErr result (λ why. StaysAfter why book.old book.new) }
 {
     commands_make_the_next::<K>();
     let _kept = history.count();

@@ -11,7 +11,7 @@ ghost use Rattle.secret_book.specs.HeldBooks.{held};
 ghost use Rattle.next_messages.specs.Headers.{IsNextHeader};
 ghost use Rattle.member_commands.specs.Commands.{IsPlain};
 ghost use Rattle.member_commands.specs.Making.{IsBodyFor};
-ghost use Rattle.member_commands.specs.Refusing.{AreReached, IsUnbegun, IsUnsealed};
+ghost use Rattle.member_commands.specs.Refusing.{AreReached, IsUnbegun, IsUnsealed, StaysAfter};
 
 use crate::refusal::NotMade;
 use body_parts::can_reach;
@@ -70,6 +70,7 @@ pub(crate) fn seal<K: Kem, G: Membership>(
         (held book.new)) }
     ensures refused { IfErr result (IsUnsealed ⟦<K as Kem>⟧ G.rule history.now random.now header.now
         (held book.old)) }
+    ensures unmoved { IfErr result (λ why. StaysAfter why book.old book.new) }
 {
     let _few = history.places();
     let Some(to) = addressees_of::<G>(alloc, history, header)? else {

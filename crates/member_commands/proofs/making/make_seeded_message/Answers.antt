@@ -31,7 +31,8 @@ returns-clause-made g c = λ input M O asks may.
     let me = c.args.me.now.0.0 in let first = c.in_ok-header.header in let body = c.in_ok-body.body in
     let made = c.in_ok-made.made in let sealed = held c.seal.new.book in let after = held c.finish.new.book in
     let last : Header = closed first body in
-    let is : c.with_body-header.result ≡ last = c.with_body-header.ensures.digest ∙ ap (λ (z : Bytes). closed first z) c.as_slice.ensures in
+    let is : c.with_body-header.result ≡ last =
+    subst (λ (z : Bytes). c.with_body-header.result ≡ closed first z) c.as_slice.ensures c.with_body-header.ensures.digest in
     let done : AreDone kem rule rows random me c.args.place c.args.kind c.args.target first body (held c.args.book.now) sealed after
     made.learned = record {
       kept = c.count-kept.ensures.kept;
