@@ -10,3 +10,6 @@ mod taking;
 pub use laws::commands_make_the_next;
 pub use making::{MadeNext, make_seeded_message};
 pub use refusal::NotMade;
+
+#[cfg(test)]
+mod tests;
