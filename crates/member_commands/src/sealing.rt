@@ -1,6 +1,6 @@
 //! The header of a next message, and its body.
 
-ghost use Rattle.std.specs.Prelude.{◌≡◌, ◌↔◌, ◌<◌, ◌≤◌, ℕ, length, IsTrue, IfErr, IfOk};
+ghost use Rattle.std.specs.Prelude.{◌↔◌, ◌≤◌, length, IsTrue, IfErr, IfOk};
 ghost use Rattle.group_fields.specs.Headers.{HasSpelling, SuitsKind};
 ghost use Rattle.group_model.specs.Membership.{ids_named};
 ghost use Rattle.group_model.specs.Messages.{AreHeads};

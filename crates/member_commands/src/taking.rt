@@ -1,7 +1,6 @@
 //! The own message is taken: the book steps, and the history gets its row.
 
 ghost use Rattle.std.specs.Prelude.{◌≡◌, ◌≤◌, ◌∷◌, [], ◌++◌, length, IfErr, IfOk, OnErr, OnOk};
-ghost use Rattle.group_fields.specs.Headers.{HasSpelling, spelling};
 ghost use Rattle.group_messages.specs.Messages.{ids_of, message_of};
 ghost use Rattle.group_model.specs.Marks.{IsPlace};
 ghost use Rattle.group_model.specs.Membership.{ids_named};
