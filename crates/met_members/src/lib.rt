@@ -3,8 +3,10 @@
 #![tactic(auto)]
 
 mod meeting;
+mod met;
 
 pub use meeting::{meet_added, meet_founders, meet_history};
+pub use met::is_met;
 
 #[cfg(test)]
 mod tests;

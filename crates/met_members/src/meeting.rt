@@ -20,7 +20,7 @@ use sha2::{Digest as Hasher, Sha256};
 use std::alloc::Global;
 
 // Whether two ids are one.
-fn is_same(a: &MemberId, b: &MemberId) -> bool
+pub(crate) fn is_same(a: &MemberId, b: &MemberId) -> bool
     ensures { IsTrue result ↔ (a.now.0.0 ≡ b.now.0.0) }
 {
     *a == *b
