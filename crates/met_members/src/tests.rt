@@ -3,7 +3,7 @@ ghost use Rattle.std.specs.Prelude.{◌≡◌, true, [], ◌∷◌, IsTrue, IfOk
 ghost use Rattle.group_fields.specs.Cards.{HasSpelling};
 ghost use Rattle.met_members.specs.Meeting.{CanMeet};
 
-use crate::{meet_added, meet_founders, meet_history};
+use crate::{is_met, meet_added, meet_founders, meet_history};
 use causal_history::History;
 use group_fields::{
     Bytes, Card, CardView, Cards, Digest, MemberId, Memory, cards_are_spelled_once, read_card,
@@ -17,8 +17,9 @@ use std::test::Fail;
 
 type Drill = Book<Drill37>;
 
-/// How the places of a book were met: how many there are, and what was sent to the first.
-type Met = (usize, Option<u32>);
+/// How the places of a book were met: how many there are, what was sent to the first, and whether they are exactly those
+/// of an empty history.
+type Met = (usize, Option<u32>, bool);
 
 /// The bytes of a card with the public key of a pair.
 fn card_bytes(alloc: Global, public: &[u8]) -> Result<Bytes, Memory> {
@@ -48,11 +49,13 @@ fn new_book(alloc: Global) -> Result<(Drill, Bytes), Fail> {
 }
 
 /// What was met; the book is closed.
-fn met(book: Drill) -> Met {
+fn met(alloc: Global, book: Drill) -> Met {
     let count = book.met();
     let first = if count == 0 { None } else { book.sends(0) };
+    let history = History::new(alloc);
+    let none = is_met(&book, &history, &member(&[], true));
     book.close();
-    (count, first)
+    (count, first, none)
 }
 
 /// Who is the member: the owner of a card, or somebody else.
@@ -113,18 +116,25 @@ fn met_by(alloc: Global, founds: bool, own: bool) -> Result<Met, Fail> {
     } else {
         add(alloc, &mut book, bytes.as_slice(), own)
     };
-    let met = met(book);
+    let met = met(alloc, book);
     done?;
     Ok(met)
+}
+
+/// What a new book has met.
+fn met_by_none(alloc: Global) -> Result<Met, Fail> {
+    let (book, _) = new_book(alloc)?;
+    Ok(met(alloc, book))
 }
 
 #[test]
 fn the_own_place_alone_has_no_pairing(rt: HostRuntime) -> Result<(), Fail> {
     let rows = [
-        (met_by(rt.alloc(), true, true)?, (1, None)),
-        (met_by(rt.alloc(), true, false)?, (1, Some(0))),
-        (met_by(rt.alloc(), false, true)?, (1, None)),
-        (met_by(rt.alloc(), false, false)?, (1, Some(0))),
+        (met_by_none(rt.alloc())?, (0, None, true)),
+        (met_by(rt.alloc(), true, true)?, (1, None, false)),
+        (met_by(rt.alloc(), true, false)?, (1, Some(0), false)),
+        (met_by(rt.alloc(), false, true)?, (1, None, false)),
+        (met_by(rt.alloc(), false, false)?, (1, Some(0), false)),
     ];
     for (found, wanted) in rows.iter() {
         assert_eq!(rt; *found, *wanted);
