@@ -1,3 +1,4 @@
 pub mod Plain
 pub mod Refused
 pub mod Next
+pub mod Said

@@ -51,14 +51,14 @@ use Rattle.member_commands.specs.Commands.{AsksFor, IsPlain, MayMake, given_to}
 use Rattle.member_commands.specs.Making.{AreDone, IsMadeBy, closed, plain_row}
 use Rattle.member_commands.proofs.Plain.{is-seeded, names-same, sends-seed}
 
-nothing-behind : {A : Type 0} (xs : List A) → xs ++ [] ≡ xs
+pub nothing-behind : {A : Type 0} (xs : List A) → xs ++ [] ≡ xs
 nothing-behind [] = refl
 nothing-behind (x ∷ xs) = ap (λ z. x ∷ z) (nothing-behind xs)
 
-in-front : {A : Type 0} {x : A} (xs : List A) → In x (xs ++ []) → In x xs
+pub in-front : {A : Type 0} {x : A} (xs : List A) → In x (xs ++ []) → In x xs
 in-front xs i = elim (In-either xs i) [ inl j ↦ j | inr j ↦ absurd (In-nothing j) ]
 
-none-refused : {K P : Type 0} (kem : Ghosts K P) (rule : History → List Id) (M : Member) (input : Input)
+pub none-refused : {K P : Type 0} (kem : Ghosts K P) (rule : History → List Id) (M : Member) (input : Input)
     → GivesNone (refusals_of kem rule (Some M) input) → GivesNone (on_input kem rule M input)
 unfolding refusals_of
 none-refused kem rule M input g = g

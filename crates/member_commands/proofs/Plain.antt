@@ -89,17 +89,23 @@ pub seed-is : {K P : Type 0} (kem : Ghosts K P) (random : Bytes) → kdf random 
 unfolding seed_of primitives_of
 seed-is kem random = refl
 
--- its row may be pushed, where it is new and goes on from the whole history
-pub may-push : (rows : List Row) (header : Header) → IsPlain header.kind → AreHeads (history_of rows) (ids_of header.predecessors)
-    → IsNew rows (message_of header) → length rows ≤ 4095 → length (ids_named (history_of rows)) ≤ 32 → MayBePushed rows (plain_row header)
-may-push rows header plain heads new room few = record {
+-- the row of a message that names nobody may be pushed, where it is new and goes on from the whole history
+pub may-push-naming-none : (rows : List Row) (header : Header) → named_by (kind_by header.kind header.target) ≡ []
+    → AreHeads (history_of rows) (ids_of header.predecessors) → IsNew rows (message_of header) → length rows ≤ 4095
+    → length (ids_named (history_of rows)) ≤ 32 → MayBePushed rows (plain_row header)
+may-push-naming-none rows header none heads new room few = record {
   predecessors = heads-stand (history_of rows) (ids_of header.predecessors) heads;
   fresh = new;
   room = omega (arith, room);
-  members = subst (λ (l : List Id). length l ≤ 32) (sym (names-same header (history_of rows) plain)) few;
-  cards = sym (names-nobody header.kind header.target plain);
+  members = subst (λ (l : List Id). length l ≤ 32) (sym (ap (λ l. joined (ids_named (history_of rows)) l) none)) few;
+  cards = sym none;
   spelled = λ card i. absurd (In-nothing i);
 }
+
+-- the row of such a message
+pub may-push : (rows : List Row) (header : Header) → IsPlain header.kind → AreHeads (history_of rows) (ids_of header.predecessors)
+    → IsNew rows (message_of header) → length rows ≤ 4095 → length (ids_named (history_of rows)) ≤ 32 → MayBePushed rows (plain_row header)
+may-push rows header plain = may-push-naming-none rows header (names-nobody header.kind header.target plain)
 
 pub same_places : (a b : BookTable) → (held a).met ≡ (held b).met → length a.places ≡ length b.places
 unfolding held

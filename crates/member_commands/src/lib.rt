@@ -4,12 +4,14 @@
 mod laws;
 mod making;
 mod refusal;
+mod saying;
 mod sealing;
 mod taking;
 
 pub use laws::commands_make_the_next;
 pub use making::{MadeNext, make_seeded_message};
 pub use refusal::NotMade;
+pub use saying::make_text_message;
 
 #[cfg(test)]
 mod tests;

@@ -1,7 +1,7 @@
 //! The call of a command that makes an update or a remove.
 
 ghost use Rattle.std.specs.Prelude.{◌≡◌, ◌≤◌, ◌∷◌, [], ◌++◌, length, IfErr, IfOk, OnErr, OnOk};
-ghost use Rattle.group_fields.specs.Headers.{HasSpelling, SuitsKind};
+ghost use Rattle.group_fields.specs.Headers.{HasSpelling, SuitsKind, spelling};
 ghost use Rattle.group_messages.specs.Messages.{ids_of, message_of};
 ghost use Rattle.group_model.specs.Marks.{IsPlace};
 ghost use Rattle.group_model.specs.Membership.{ids_named};
@@ -39,6 +39,25 @@ pub struct MadeNext {
     pub learned: Option<[u8; 32]>,
 }
 
+// The bytes of a header, where its message is new.
+pub(crate) fn write_next(
+    alloc: Global,
+    history: &History,
+    header: &Header,
+) -> Result<Bytes, NotMade>
+    requires spelled { HasSpelling header.now }
+    ensures spelled { IfOk result (λ bytes. bytes ≡ spelling header.now) }
+    ensures new { OnOk result (IsNew history.now (message_of header.now)) }
+    ensures refused { IfErr result (IsUntaken history.now header.now) }
+{
+    let bytes = write_header(alloc, header)?;
+    let id = read_header(bytes.as_slice()).unwrap().id();
+    match history.find(&id) {
+        Some(_) => Err(NotMade::Repeated),
+        None => Ok(bytes),
+    }
+}
+
 // Takes the message of a header whose body was made, where it is new.
 fn finish<K: Kem, G: Membership>(
     alloc: Global,
@@ -64,14 +83,10 @@ fn finish<K: Kem, G: Membership>(
     ensures kept { OnErr result (history.new ≡ history.old) }
     ensures refused { IfErr result (IsUntaken history.old header.now) }
 {
-    let bytes = write_header(alloc, header)?;
+    let bytes = write_next(alloc, history, header)?;
     let view = read_header(bytes.as_slice()).unwrap();
     let id = view.id();
     let seq = view.seq();
-    match history.find(&id) {
-        Some(_) => return Err(NotMade::Repeated),
-        None => {}
-    }
     let learned = take_next::<K, G>(alloc, history, book, place, &view, random)?;
     Ok(MadeNext {
         header: bytes,
