@@ -1,10 +1,19 @@
+//! Whom an ack forwards to, by the rows of small histories, and the body of an ack, opened by the book of whom it is for.
+ghost use Rattle.std.specs.Prelude.{◌≡◌, ◌<◌, true, length, All, IsTrue};
+ghost use Rattle.secret_book.specs.HeldBooks.{held};
+ghost use Rattle.body_parts.specs.Sending.{CanReach};
+
 use crate::*;
+use body_parts::{Receiver, can_reach, draw_for, receivers};
 use causal_history::{Crowd, History};
 use group_fields::{
     Bytes, Card, Cards, Digest, GroupId, Header, HeaderView, Ids, Kind, MemberId, Memory,
     MessageId, Target, read_card, read_header, write_card, write_header,
 };
+use kem_trait::{Kem, SeedWords};
 use member_view::RemoveWins;
+use ntru_prime::Drill37;
+use secret_book::Book;
 use std::alloc::Global;
 use std::test::Fail;
 
@@ -310,5 +319,118 @@ fn forwards_to_whom_the_operation_left_out(rt: HostRuntime) -> Result<(), Fail> 
     assert_eq!(rt; told(rt.alloc(), &ROWS, &CASES)?, None);
     assert_eq!(rt; told(rt.alloc(), &CROSSED, &CROSSED_CASES)?, None);
     assert_eq!(rt; told(rt.alloc(), &CROSSED[..2], &EARLY_CASES)?, None);
+    Ok(())
+}
+
+// ---- the body of an ack
+
+type Drill = Book<Drill37>;
+
+const SECRET: [u8; 32] = [0x5a; 32];
+
+fn pair(alloc: Global, number: u8) -> Result<<Drill37 as Kem>::Pair, Fail> {
+    Ok(Drill37::make(alloc, &mut SeedWords::new(&[number; 32]))?)
+}
+
+// Meets the own place, and then the member whose pair is made by the seed of a number.
+fn meet(alloc: Global, book: &mut Drill, number: u8) -> Result<(), Fail> {
+    if book.met() != 0 {
+        return Err(Fail::new("the own place is the first here"));
+    }
+    book.meet(alloc, 0, None)?;
+    let theirs = pair(alloc, number)?;
+    let mut public = vec![in alloc; 0; Drill37::PUBLIC_LEN]?;
+    Drill37::public(&theirs, public.as_mut_slice());
+    if book.met() != 1 || !Drill37::public_ok(public.as_slice()) {
+        return Err(Fail::new("no place, or the public key of a pair is none"));
+    }
+    Ok(book.meet(alloc, 1, Some(public.as_slice()))?)
+}
+
+// Whether parts can be sent to each of the receivers.
+fn can_reach_each(book: &Drill, to: &[Receiver]) -> bool
+    ensures { IsTrue result → All (λ r. CanReach (held book.now) r.place) to.now }
+{
+    for i in 0..to.len() {
+        if !can_reach(book, to[i].place) {
+            return false;
+        }
+    }
+    true
+}
+
+// The body of an ack that forwards the secret to a crowd.
+fn ack(alloc: Global, book: &mut Drill, history: &History, to: Crowd) -> Result<Bytes, Fail> {
+    let list = receivers(alloc, history, to)?;
+    let all = list.as_slice();
+    if !can_reach_each(book, all) {
+        return Err(Fail::new("a place that no part can be sent to"));
+    }
+    let draws = draw_for::<Drill37>(alloc, &[3; 32], all)?;
+    Ok(make_ack(alloc, book, history, to, &SECRET, draws)?)
+}
+
+fn was_met(book: &Drill, place: u8) -> bool
+    ensures { result ≡ true → place < length book.now.places }
+{
+    (place as usize) < book.met()
+}
+
+// Whether a part of the member at place 1 opens to the secret.
+fn opens(alloc: Global, book: &mut Drill, part: &[u8]) -> Result<bool, Fail> {
+    if !was_met(book, 1) {
+        return Err(Fail::new("a place that was not met"));
+    }
+    Ok(book.open_from(alloc, 1, part)? == Some(SECRET))
+}
+
+// The id of the member at place 1.
+fn second(history: &History) -> MemberId {
+    if history.places() < 2 {
+        return MemberId(Digest([0; 32]));
+    }
+    history.member(1)
+}
+
+// Whether the bytes are the count of one part, the id of the member at place 1, and a part that opens to the secret.
+fn is_one_part(
+    alloc: Global,
+    bytes: &[u8],
+    history: &History,
+    bob: &mut Drill,
+) -> Result<bool, Fail> {
+    let Some(rest) = bytes.strip_prefix(&[1]) else {
+        return Ok(false);
+    };
+    if rest.len() != 291 {
+        return Ok(false);
+    }
+    let (id, part) = rest.split_at(32);
+    Ok(id == second(history).0.0.as_slice() && opens(alloc, bob, part)?)
+}
+
+// The first of two members acknowledges to the second, and to nobody.
+fn acknowledges(alloc: Global, ada: &mut Drill, bob: &mut Drill) -> Result<bool, Fail> {
+    meet(alloc, ada, 2)?;
+    meet(alloc, bob, 1)?;
+    let mut history = History::new(alloc);
+    if !push_all(alloc, &mut history, &ROWS[..1])? {
+        return Err(Fail::new("a row can't be pushed"));
+    }
+    let one = ack(alloc, ada, &history, Crowd::new().with(1))?;
+    let nobody = ack(alloc, ada, &history, Crowd::new())?;
+    Ok(nobody.as_slice() == [0].as_slice() && is_one_part(alloc, one.as_slice(), &history, bob)?)
+}
+
+#[test]
+fn an_ack_carries_the_secret_to_whom_it_is_for(rt: HostRuntime) -> Result<(), Fail> {
+    let mine = pair(rt.alloc(), 1)?;
+    let theirs = pair(rt.alloc(), 2)?;
+    let mut ada = Book::start(rt.alloc(), mine);
+    let mut bob = Book::start(rt.alloc(), theirs);
+    let right = acknowledges(rt.alloc(), &mut ada, &mut bob);
+    ada.close();
+    bob.close();
+    assert!(rt; right?);
     Ok(())
 }

@@ -52,18 +52,18 @@ module _ {K P : Type 0} (kem : Ghosts K P) (rows : List Row) (random : Bytes) (m
   IsUnsaid place book Memory = Unit {0}
 
 module _ {K P : Type 0} (kem : Ghosts K P) (rule : History → List Id) (M : Member) (O : Owner) (random text : Bytes)
-    where
-  -- the entry of the message has the text that was sent
-  abbrev pub HasSent : MadeMessage → Type 0
-  HasSent next =
-      text_at O.primitives O.card O.id (Made (as_packet kem M next) (given_to (Send text) random)) M.log ≡ Some text
+  where
+    -- the entry of the message has the text that was sent
+    abbrev pub HasSent : MadeMessage → Type 0
+    HasSent next =
+        text_at O.primitives O.card O.id (Made (as_packet kem M next) (given_to (Send text) random)) M.log ≡ Some text
 
-  -- The message with this header and body is the one that a `Send` of the text asks the member for.
-  pub record IsSaidBy (header : Header) (body : Bytes) (rows : List Row) (book : HeldBook) : Type 0 where
-    pub is : IsMadeBy kem rule M O (given_to (Send text) random) (Send text) header body rows book None
-    pub says : HasSent is.next
+    -- The message with this header and body is the one that a `Send` of the text asks the member for.
+    pub record IsSaidBy (header : Header) (body : Bytes) (rows : List Row) (book : HeldBook) : Type 0 where
+      pub is : IsMadeBy kem rule M O (given_to (Send text) random) (Send text) header body rows book None
+      pub says : HasSent is.next
 
-  -- It was made so.
-  pub record SaysNext (made : MadeNext) (rows : List Row) (book : HeldBook) : Type 0 where
-    pub makes : MakesNext kem rule M O (given_to (Send text) random) (Send text) made rows book
-    pub says : HasSent makes.is.next
+    -- It was made so.
+    pub record SaysNext (made : MadeNext) (rows : List Row) (book : HeldBook) : Type 0 where
+      pub makes : MakesNext kem rule M O (given_to (Send text) random) (Send text) made rows book
+      pub says : HasSent makes.is.next

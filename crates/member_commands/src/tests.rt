@@ -1,7 +1,9 @@
 //! A member of two updates, and then removes the other: what the messages have, and what the member learns, by the
-//! definition of a ratchet's step.
+//! definition of a ratchet's step. Another says a text, against an independent program.
+ghost use Rattle.std.specs.Prelude.{◌≡◌, ◌<◌, true, length};
 
-use crate::{MadeNext, make_seeded_message};
+use crate::{MadeNext, NotMade, make_seeded_message, make_text_message};
+use app_messages::make_text;
 use causal_history::History;
 use group_fields::{
     Bytes, Card, Cards, Digest, GroupId, Header, Ids, Kind, MemberId, Memory, Target, read_card,
@@ -233,6 +235,98 @@ fn a_member_makes_an_update_and_a_remove(rt: HostRuntime) -> Result<(), Fail> {
     let own = pair(rt.alloc(), 1)?;
     let mut book = Book::start(rt.alloc(), own);
     let right = story(rt.alloc(), &mut book);
+    book.close();
+    assert!(rt; right?);
+    Ok(())
+}
+
+// ---- texts
+
+/// The fourth text of the chain that the input "welcome" starts on the empty ratchet, `hello`. Computed by Python's hmac
+/// and hashlib, with a ChaCha20 written for it.
+const HELLO: [u8; 39] = [
+    0x00, 0x05, 0x4c, 0x8e, 0xa4, 0xe5, 0x14, 0x9c, 0xb0, 0x40, 0x81, 0x16, 0x18, 0x45, 0xb7, 0xbe,
+    0xb0, 0xad, 0xf7, 0x83, 0x84, 0x86, 0x06, 0x3d, 0x51, 0x91, 0xc8, 0x8f, 0x1f, 0x7e, 0x52, 0x66,
+    0x91, 0x40, 0x4a, 0x9e, 0x72, 0x73, 0xf7,
+];
+
+fn was_met(book: &Drill) -> bool
+    ensures { result ≡ true → 0 < length book.now.places }
+{
+    0 < book.met()
+}
+
+/// Spends a key of the own text chain.
+fn spend(alloc: Global, book: &mut Drill) -> Result<(), Fail> {
+    if !was_met(book) {
+        return Err(Fail::new("no place"));
+    }
+    make_text(alloc, book, 0, b"early")?;
+    Ok(())
+}
+
+/// Starts the own text chain, and spends its first three keys.
+fn start_chain(alloc: Global, book: &mut Drill) -> Result<(), Fail> {
+    if was_met(book) {
+        book.step(0, Some(b"welcome"));
+    }
+    for _ in 0..3 {
+        spend(alloc, book)?;
+    }
+    Ok(())
+}
+
+/// Says `hello`. None without a text chain.
+fn say(
+    alloc: Global,
+    history: &mut History,
+    book: &mut Drill,
+    me: &MemberId,
+) -> Result<Option<MadeNext>, Fail> {
+    let Some(place) = history.place(me) else {
+        return Err(Fail::new("no place"));
+    };
+    if history.count() > 4095 || book.met() != history.places() as usize {
+        return Err(Fail::new("another book"));
+    }
+    match make_text_message::<Drill37, RemoveWins>(
+        alloc, history, book, me, place, b"hello", &RANDOM,
+    ) {
+        Ok(made) => Ok(Some(made)),
+        Err(NotMade::Unfit) => Ok(None),
+        Err(_) => Err(Fail::new("no text")),
+    }
+}
+
+/// Whether a text of this number was made, with the body that is wanted, and nothing was learned.
+fn says_hello(made: Option<MadeNext>, seq: u32) -> bool {
+    match made {
+        Some(made) => {
+            is_said(&made, seq, 39)
+                && made.body.as_slice() == HELLO.as_slice()
+                && made.learned == None
+        }
+        None => false,
+    }
+}
+
+/// The first text has no chain yet.
+fn told(alloc: Global, book: &mut Drill) -> Result<bool, Fail> {
+    meet(alloc, book)?;
+    let numbers = in_order(alloc)?;
+    let mut history = group_of(alloc, numbers)?;
+    let me = MemberId(id_of(alloc, numbers.0)?);
+    let early = say(alloc, &mut history, book, &me)?.is_none() && history.count() == 1;
+    start_chain(alloc, book)?;
+    let made = say(alloc, &mut history, book, &me)?;
+    Ok(early && says_hello(made, 2) && history.count() == 2)
+}
+
+#[test]
+fn a_member_says_a_text(rt: HostRuntime) -> Result<(), Fail> {
+    let own = pair(rt.alloc(), 1)?;
+    let mut book = Book::start(rt.alloc(), own);
+    let right = told(rt.alloc(), &mut book);
     book.close();
     assert!(rt; right?);
     Ok(())
