@@ -2,3 +2,4 @@ pub mod Plain
 pub mod Refused
 pub mod Next
 pub mod Said
+pub mod Unsaid

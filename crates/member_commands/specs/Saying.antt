@@ -29,6 +29,13 @@ use Rattle.member_commands.specs.declared.making.MadeNext.{MadeNext}
 use Rattle.member_commands.specs.declared.refusal.NotMade.{NotMade}
 use Rattle.member_commands.specs.declared.refusal.NotMade.TheVariants.{Memory, NoUsableKey, Repeated, Unfit}
 
+-- why a text isn't sealed by a text chain
+abbrev pub IsShut : (chain : Option Bytes) → NotMade → Type 0
+IsShut chain NoUsableKey = ⊥
+IsShut chain Repeated = ⊥
+IsShut chain Unfit = chain ≡ None
+IsShut chain Memory = Unit {0}
+
 module _ {K P : Type 0} (kem : Ghosts K P) (rows : List Row) (random : Bytes) (me : Id) where
   -- the header is that of the member's next text, whatever body it has
   abbrev pub IsTextHeader : Header → Type 0

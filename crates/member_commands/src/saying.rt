@@ -1,6 +1,6 @@
 //! The call of a command that makes a text.
 
-ghost use Rattle.std.specs.Prelude.{◌≡◌, ◌≤◌, ◌∷◌, [], ◌++◌, ℕ, List, None, length, IfErr, IfOk, OnErr, OnOk};
+ghost use Rattle.std.specs.Prelude.{◌≡◌, ◌<◌, ◌≤◌, ◌∷◌, [], ◌++◌, ℕ, List, None, length, IfErr, IfOk, OnErr, OnOk};
 ghost use Rattle.group_fields.specs.Headers.{HasSpelling};
 ghost use Rattle.group_fields.specs.declared.header.Header.{Header};
 ghost use Rattle.group_fields.specs.declared.header.Kind.TheVariants as kinds;
@@ -11,14 +11,16 @@ ghost use Rattle.group_model.specs.Messages.{AreHeads, History};
 ghost use Rattle.group_model.specs.Settings.{Owner};
 ghost use Rattle.group_model.specs.Sets.{Bytes, Id};
 ghost use Rattle.causal_history.specs.Rows.{Row, history_of};
-ghost use Rattle.secret_book.specs.HeldBooks.{HeldBook, held};
+ghost use Rattle.group_keys.specs.Primitives.{primitives_of};
+ghost use Rattle.secret_book.specs.HeldBooks.{HeldBook, chained, held};
+ghost use Rattle.app_messages.specs.Texts.{IsTextBody};
 ghost use Rattle.reference_member.specs.Members.{Member};
 ghost use Rattle.reference_member.specs.Steps.{Send};
 ghost use Rattle.next_messages.specs.Due.{IsNew};
 ghost use Rattle.member_commands.specs.Commands.{MayMake};
 ghost use Rattle.member_commands.specs.Making.{IsWritten, closed, plain_row};
 ghost use Rattle.member_commands.specs.Refusing.{IsUntaken};
-ghost use Rattle.member_commands.specs.Saying.{IsSaid, IsSaidBy, IsUnsaid, SaysNext};
+ghost use Rattle.member_commands.specs.Saying.{IsSaid, IsSaidBy, IsShut, IsUnsaid, SaysNext};
 
 use crate::making::{MadeNext, write_next};
 use crate::refusal::NotMade;
@@ -48,6 +50,26 @@ fn texts_are_the_next<K: Kem>()
     the_book_stands_for_its_log();
     texts_are_entries::<K>();
     calls_stand::<K>();
+}
+
+// Seals the next text of the own place.
+fn seal_text<K: Kem>(
+    alloc: Global,
+    book: &mut Book<K>,
+    place: u8,
+    text: &[u8],
+) -> Result<Bytes, NotMade>
+    requires short { length text.now ≤ 4096 }
+    requires met { place < length book.old.places }
+    ensures sealed { IfOk result
+        (IsTextBody (primitives_of ⟦<K as Kem>⟧) ((held book.old).chain place) text.now) }
+    ensures moved { OnOk result (held book.new ≡ chained (primitives_of ⟦<K as Kem>⟧) place (held book.old)) }
+    ensures refused { IfErr result (IsShut ((held book.old).chain place)) }
+{
+    match make_text(alloc, book, place, text)? {
+        Some(body) => Ok(body),
+        None => Err(NotMade::Unfit),
+    }
 }
 
 // Pushes the row of a text.
@@ -132,9 +154,8 @@ pub fn make_text_message<K: Kem, G: Membership>(
     texts_are_the_next::<K>();
     let _kept = history.count();
     let header = begin::<K>(history, me, random, Kind::Text, Target::Nothing)?;
-    let Some(body) = make_text(alloc, book, place, text)? else {
-        return Err(NotMade::Unfit);
-    };
+    let body = seal_text(alloc, book, place, text)?;
     let header = with_body(header, body.as_slice());
-    finish_text(alloc, history, &header, body)
+    let made = finish_text(alloc, history, &header, body)?;
+    Ok(made)
 }

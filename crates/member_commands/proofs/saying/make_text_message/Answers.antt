@@ -1,4 +1,4 @@
-use Rattle.std.proofs.Common.{◌≡◌, ◌∙◌, ◌∷◌, ◌++◌, [], List, None, ap, subst, sym}
+use Rattle.std.proofs.Common.{◌≡◌, ◌∙◌, ◌∷◌, ◌++◌, [], ap, rules, subst, sym}
 use Rattle.group_fields.specs.declared.header.Header.{Header}
 use Rattle.group_model.specs.Sets.{Bytes}
 use Rattle.group_messages.specs.Messages.{message_of}
@@ -7,3 +7,38 @@ use Rattle.next_messages.specs.Due.{IsNew}
 use Rattle.member_commands.specs.Making.{IsWritten, closed, plain_row}
 use Rattle.member_commands.specs.Saying.{IsSaid}
 use Rattle.member_commands.proofs.saying.make_text_message.Goals as goal
+
+pub returns-clause-made : goal.returns-clause-made
+returns-clause-made g c = λ M O may.
+    let kem = g.K.Kem in let rows = c.args.history.now in let random = c.args.random.now in let me = c.args.me.now.0.0 in
+    let first = c.in_ok-header.header in let body = c.in_ok-body.body in let made = c.in_ok-made.made in
+    let after = held c.seal_text.new.book in
+    let last : Header = closed first body in
+    let is : c.with_body-header.result ≡ last =
+    subst (λ (z : Bytes). c.with_body-header.result ≡ closed first z) c.as_slice.ensures c.with_body-header.ensures.digest in
+    let done : IsSaid kem rows random me c.args.place c.args.text.now first body (held c.args.book.now) after = record {
+      kept = c.count-kept.ensures.kept;
+      own = c.requires.own;
+      begun = c.in_ok-header.ensures.next;
+      sealed = c.in_ok-body.ensures.sealed;
+      moved = c.in_ok-body.ensures.moved;
+      new = subst (λ (z : Header). IsNew rows (message_of z)) is c.in_ok-made.ensures.new;
+    } in
+    let said = c.texts_are_the_next.ensures g.G.Membership.rule rows random me c.args.place c.args.text.now first body
+    (held c.args.book.now) after done M O may in
+    record {
+      makes = record {
+        header = last;
+        written = subst (λ (z : Header). IsWritten z made) is c.in_ok-made.ensures.written;
+        is = record {
+          next = said.is.next;
+          header_is = said.is.header_is;
+          body_is = said.is.body_is ∙ sym c.in_ok-made.ensures.body;
+          by_command = said.is.by_command;
+          rows_are = c.in_ok-made.ensures.rows ∙ ap (λ (z : Header). rows ++ plain_row z ∷ []) is ∙ said.is.rows_are;
+          stands = said.is.stands;
+          learns = c.in_ok-made.ensures.none ∙ said.is.learns;
+        };
+      };
+      says = said.says;
+    }
