@@ -1,5 +1,5 @@
 //! Whom an ack forwards to, by the rows of small histories, and the body of an ack, opened by the book of whom it is for.
-ghost use Rattle.std.specs.Prelude.{◌≡◌, ◌<◌, true, length, All, IsTrue};
+ghost use Rattle.std.specs.Prelude.{All, IsTrue};
 ghost use Rattle.secret_book.specs.HeldBooks.{held};
 ghost use Rattle.body_parts.specs.Sending.{CanReach};
 
@@ -370,15 +370,9 @@ fn ack(alloc: Global, book: &mut Drill, history: &History, to: Crowd) -> Result<
     Ok(make_ack(alloc, book, history, to, &SECRET, draws)?)
 }
 
-fn was_met(book: &Drill, place: u8) -> bool
-    ensures { result ≡ true → place < length book.now.places }
-{
-    (place as usize) < book.met()
-}
-
 // Whether a part of the member at place 1 opens to the secret.
 fn opens(alloc: Global, book: &mut Drill, part: &[u8]) -> Result<bool, Fail> {
-    if !was_met(book, 1) {
+    if !can_reach(book, 1) {
         return Err(Fail::new("a place that was not met"));
     }
     Ok(book.open_from(alloc, 1, part)? == Some(SECRET))
