@@ -58,7 +58,7 @@ to-nobody rule h m is = record {
   only = λ z i. absurd (In-nothing i);
 }
 
-no-parts : {A : Type 0} (parts : List A) → Some {A = List A} [] ≡ Some parts → parts ≡ []
+no-parts : {A : Type 0} (parts : List A) → (let none : List A = [] in Some none) ≡ Some parts → parts ≡ []
 no-parts parts e = cc
 
 module _ {K P : Type 0} (kem : Ghosts K P) (rule : History → List Id) (log_keeps : LogKeeps) (entry_keeps : EntryKeeps)

@@ -14,7 +14,7 @@ use Rattle.member_commands.specs.Saying.{IsShut, IsTextHeader, IsUnsaid}
 
 -- what was not sealed has no chain
 pub shut : (K : Primitives) (chain : Option Bytes) (text : Bytes) (body : Bytes → Bytes)
-    → None {A = Bytes} ≡ option_map body (text_sealed K chain text) → IsShut chain Unfit
+    → None ≡ option_map body (text_sealed K chain text) → IsShut chain Unfit
 shut K None text body e = refl
 shut K (Some k) text body e = absurd cc
 

@@ -1,7 +1,7 @@
 //! The call of a command that makes an update or a remove.
 
 ghost use Rattle.std.specs.Prelude.{◌≡◌, ◌≤◌, ◌∷◌, [], ◌++◌, length, IfErr, IfOk, OnErr, OnOk};
-ghost use Rattle.group_fields.specs.Headers.{HasSpelling, SuitsKind, spelling};
+ghost use Rattle.group_fields.specs.Headers.{HasSpelling, Spells, SuitsKind, spelling};
 ghost use Rattle.group_messages.specs.Messages.{ids_of, message_of};
 ghost use Rattle.group_model.specs.Marks.{IsPlace};
 ghost use Rattle.group_model.specs.Membership.{ids_named};
@@ -46,7 +46,8 @@ pub(crate) fn write_next(
     header: &Header,
 ) -> Result<Bytes, NotMade>
     requires spelled { HasSpelling header.now }
-    ensures spelled { IfOk result (λ bytes. bytes ≡ spelling header.now) }
+    ensures spells { IfOk result (λ bytes. Spells header.now bytes) }
+    ensures whole { IfOk result (λ bytes. bytes ≡ spelling header.now) }
     ensures new { OnOk result (IsNew history.now (message_of header.now)) }
     ensures refused { IfErr result (IsUntaken history.now header.now) }
 {

@@ -7,7 +7,8 @@ ghost use Rattle.group_fields.specs.declared.header.Kind.TheVariants as kinds;
 ghost use Rattle.group_messages.specs.Messages.{ids_of, message_of};
 ghost use Rattle.group_model.specs.Marks.{IsPlace};
 ghost use Rattle.group_model.specs.Membership.{ids_named};
-ghost use Rattle.group_model.specs.Messages.{AreHeads, History};
+ghost use Rattle.group_model.specs.Messages.{AreHeads};
+ghost use Rattle.group_model.specs.Messages as messages;
 ghost use Rattle.group_model.specs.Settings.{Owner};
 ghost use Rattle.group_model.specs.Sets.{Bytes, Id};
 ghost use Rattle.causal_history.specs.Rows.{Row, history_of};
@@ -40,7 +41,7 @@ use std::alloc::Global;
 // What was done for a text is what the command makes, of whatever member after steps has this history and this book and
 // is refused the text by nothing. The function does nothing; its contract is the law.
 fn texts_are_the_next<K: Kem>()
-    ensures { (rule : History → List Id) (rows : List Row) (random : Bytes) (me : Id) (place : ℕ) (text : Bytes)
+    ensures { (rule : messages.History → List Id) (rows : List Row) (random : Bytes) (me : Id) (place : ℕ) (text : Bytes)
         (header : Header) (body : Bytes) (before after : HeldBook)
         → IsSaid ⟦<K as Kem>⟧ rows random me place text header body before after → (M : Member) (O : Owner)
         → MayMake ⟦<K as Kem>⟧ rule me rows before (Send text) M O
