@@ -1,5 +1,5 @@
 -- What was done for a text is the member's next message, and the history and the book with it.
-use Rattle.std.proofs.Common.{◌≡◌, ℕ, List, [], ◌∷◌, ◌++◌, ◌<◌, length, Option, Some, None, refl, sym, ◌∙◌, ap, subst}
+use Rattle.std.proofs.Common.{◌≡◌, ℕ, List, [], ◌∷◌, ◌++◌, ◌<◌, length, Some, refl, sym, ◌∙◌, ap, subst}
 use Rattle.std.proofs.lemmas.Option.{get_or_from_slice_get}
 use Rattle.kem_trait.specs.declared.kem.Kem.{Ghosts}
 use Rattle.group_fields.specs.Layouts.{Spells}
@@ -8,7 +8,7 @@ use Rattle.group_fields.specs.declared.header.Kind.{Kind as HeaderKind}
 use Rattle.group_fields.specs.declared.header.Kind.TheVariants as kinds
 use Rattle.group_fields.specs.declared.header.Target.TheVariants as targets
 use Rattle.group_model.specs.Sets.{Bytes, Id}
-use Rattle.group_model.specs.Messages.{History, Kind, Message, Text}
+use Rattle.group_model.specs.Messages.{History, Message, Text}
 use Rattle.group_model.specs.LawfulLogs.{MakesPacket}
 use Rattle.group_model.specs.Logs.{Made}
 use Rattle.group_model.specs.Marks.{IsPlace}
@@ -17,7 +17,6 @@ use Rattle.group_model.specs.Packets.{Addressed, Given}
 use Rattle.group_model.specs.Packets as model
 use Rattle.group_model.specs.Settings.{Owner}
 use Rattle.group_model.proofs.ListFacts.{In-nothing}
-use Rattle.group_keys.specs.Primitives.{primitives_of}
 use Rattle.group_messages.specs.Messages.{kind_by, message_of}
 use Rattle.causal_history.specs.Rows.{Row, cards_of}
 use Rattle.causal_history.proofs.ListMore.{get-below}

@@ -1,12 +1,24 @@
 use Rattle.std.proofs.Common.{◌≡◌, ◌∙◌, ◌∷◌, ◌++◌, [], ap, rules, subst, sym}
 use Rattle.group_fields.specs.declared.header.Header.{Header}
+use Rattle.group_fields.specs.declared.header.Kind.TheVariants as kinds
+use Rattle.group_fields.specs.declared.header.Target.TheVariants as targets
 use Rattle.group_model.specs.Sets.{Bytes}
 use Rattle.group_messages.specs.Messages.{message_of}
 use Rattle.secret_book.specs.HeldBooks.{held}
 use Rattle.next_messages.specs.Due.{IsNew}
 use Rattle.member_commands.specs.Making.{IsWritten, closed, plain_row}
-use Rattle.member_commands.specs.Saying.{IsSaid}
+use Rattle.member_commands.specs.Saying.{IsSaid, IsUnsaid}
+use Rattle.member_commands.proofs.Unsaid.{untaken}
 use Rattle.member_commands.proofs.saying.make_text_message.Goals as goal
+
+pub returns-in_err-made-clause-refused : goal.returns-in_err-made-clause-refused
+returns-in_err-made-clause-refused g c =
+    let rows = c.args.history.now in let me = c.args.me.now.0.0 in let random = c.args.random.now in
+    let unsaid : IsUnsaid g.K.Kem rows random me c.args.place (held c.args.book.now) c.in_err-made.field-0.0 =
+    untaken g.K.Kem rows random me c.args.place (held c.args.book.now) c.with_body-header.result
+    (c.with_body-header.ensures.next g.K.Kem.SET rows me random kinds.Text targets.Nothing c.in_ok-header.ensures.next)
+    c.in_err-made.field-0.0 c.in_err-made.ensures.refused in
+    search rules
 
 pub returns-clause-made : goal.returns-clause-made
 returns-clause-made g c = λ M O may.
