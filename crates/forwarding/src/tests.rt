@@ -1,4 +1,5 @@
-//! Whom an ack forwards to, by the rows of small histories, and the body of an ack, opened by the book of whom it is for.
+//! Whom an ack forwards to, by the rows of small histories, and the body of an ack, opened by the book of whom it is
+//! for.
 ghost use Rattle.std.specs.Prelude.{All, IsTrue};
 ghost use Rattle.secret_book.specs.HeldBooks.{held};
 ghost use Rattle.body_parts.specs.Sending.{CanReach};

@@ -13,7 +13,7 @@ use Rattle.group_model.specs.LawfulLogs.{MakesPacket}
 use Rattle.group_model.specs.Logs.{Made}
 use Rattle.group_model.specs.Marks.{IsPlace}
 use Rattle.group_model.specs.Membership.{AreAddressees, IsAddressee, ids_named}
-use Rattle.group_model.specs.Packets.{Addressed, Given}
+use Rattle.group_model.specs.Packets.{Given}
 use Rattle.group_model.specs.Packets as model
 use Rattle.group_model.specs.Settings.{Owner}
 use Rattle.group_model.proofs.ListFacts.{In-nothing}

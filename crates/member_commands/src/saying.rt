@@ -38,8 +38,8 @@ use next_messages::with_body;
 use secret_book::Book;
 use std::alloc::Global;
 
-// What was done for a text is what the command makes, of whatever member after steps has this history and this book and
-// is refused the text by nothing. The function does nothing; its contract is the law.
+// What was done for a text is what the command makes, of whatever member after steps has this history and this book
+// and is refused the text by nothing. The function does nothing; its contract is the law.
 fn texts_are_the_next<K: Kem>()
     ensures { (rule : messages.History → List Id) (rows : List Row) (random : Bytes) (me : Id) (place : ℕ) (text : Bytes)
         (header : Header) (body : Bytes) (before after : HeldBook)
@@ -124,12 +124,12 @@ fn finish_text(
 /// row of the text, and there is no update secret to learn.
 ///
 /// The place is the member's own in the history, the book has met exactly whom the history names, and there is room for
-/// one row more. Whatever member after steps has this id, this history and this book, where nothing refuses it the text:
-/// the message is the one that it makes, and its entry has the text.
+/// one row more. Whatever member after steps has this id, this history and this book, where nothing refuses it the
+/// text: the message is the one that it makes, and its entry has the text.
 ///
-/// `Repeated` only where a row has the id of a header of this text; `Unfit` only where the history has more than 32 heads
-/// or the text chain of the own place isn't known; `Memory` where an allocation was refused; `NoUsableKey` never. After
-/// an error the history is as it was, and the book is only to be closed.
+/// `Repeated` only where a row has the id of a header of this text; `Unfit` only where the history has more than 32
+/// heads or the text chain of the own place isn't known; `Memory` where an allocation was refused; `NoUsableKey` never.
+/// After an error the history is as it was, and the book is only to be closed.
 pub fn make_text_message<K: Kem, G: Membership>(
     alloc: Global,
     history: &mut History,

@@ -17,8 +17,8 @@ use std::test::Fail;
 
 type Drill = Book<Drill37>;
 
-/// How the places of a book were met: how many there are, what was sent to the first, and whether they are exactly those
-/// of an empty history.
+/// How the places of a book were met: how many there are, what was sent to the first, and whether they are exactly
+/// those of an empty history.
 type Met = (usize, Option<u32>, bool);
 
 /// The bytes of a card with the public key of a pair.
