@@ -10,15 +10,16 @@ use Rattle.group_fields.specs.declared.header.Target.TheVariants as targets
 use Rattle.group_model.specs.Sets.{Bytes, Id}
 use Rattle.group_model.specs.Messages.{History, Message, Text}
 use Rattle.group_model.specs.LawfulLogs.{MakesPacket}
-use Rattle.group_model.specs.Logs.{Made}
+use Rattle.group_model.specs.Logs.{Made, hist}
 use Rattle.group_model.specs.Marks.{IsPlace}
 use Rattle.group_model.specs.Membership.{AreAddressees, IsAddressee, ids_named}
 use Rattle.group_model.specs.Packets.{Given}
 use Rattle.group_model.specs.Packets as model
 use Rattle.group_model.specs.Settings.{Owner}
+use Rattle.group_model.specs.Validity.{HasStepped}
 use Rattle.group_model.proofs.ListFacts.{In-nothing}
 use Rattle.group_messages.specs.Messages.{kind_by, message_of}
-use Rattle.causal_history.specs.Rows.{Row, cards_of}
+use Rattle.causal_history.specs.Rows.{Row, cards_of, history_of}
 use Rattle.causal_history.proofs.ListMore.{get-below}
 use Rattle.causal_history.proofs.RowFacts.{history-push}
 use Rattle.wire_codec.specs.Packets as packets
@@ -27,7 +28,7 @@ use Rattle.member_view.specs.Causes.{GivesNone}
 use Rattle.member_book.specs.Books.{BookState}
 use Rattle.member_book.specs.Books as books
 use Rattle.member_book.specs.BooksAfter.{book_after}
-use Rattle.member_book.specs.Laws.{EntryKeeps, LogKeeps, book_of}
+use Rattle.member_book.specs.Laws.{EntryKeeps, LogKeeps, OwnKnown, book_of}
 use Rattle.member_book.specs.Places.{id_at}
 use Rattle.member_book.specs.Standing.{BookStands}
 use Rattle.secret_book.specs.HeldBooks.{HeldBook}
@@ -189,3 +190,28 @@ module _ {K P : Type 0} (kem : Ghosts K P) (rule : History → List Id) (log_kee
       may.rows_are
       (said-by M O random text place header body before after own may.owner (run-sound kem rule may.steps M may.made may.run) may.stands
       may.refused_by_none)
+
+-- who is refused no text has stepped, and so its chain is known
+module _ {K P : Type 0} (kem : Ghosts K P) (rule : History → List Id) (log_keeps : LogKeeps) (own_known : OwnKnown)
+    (calls_stand : (O : Owner) (ids : List Id) (p : ℕ) (b : HeldBook) (state : BookState) → HeldStands kem O ids b state
+    → p < length ids → CallsStand kem O ids p b state) where
+  has-stepped : (M : Member) (text : Bytes) → GivesNone (refusals_of kem rule (Some M) (Send text)) → HasStepped (known M) (own_id kem M)
+  has-stepped M text none = (none-refused kem rule M (Send text) none).1.1.1.0
+
+  pub chain-there : (rows : List Row) (me : Id) (place : ℕ) (book : HeldBook) (text : Bytes) (M : Member) (O : Owner)
+      → IsPlace (ids_named (history_of rows)) place me → MayMake kem rule me rows book (Send text) M O
+      → (key : Bytes) × (book.chain place ≡ Some key)
+  chain-there rows me place book text M O at may =
+      let sound = run-sound kem rule may.steps M may.made may.run in
+      let lawful = (sound.conducts O may.owner).lawful in
+      let own : IsPlace (ids_named (known M)) place O.id = subst (λ z. IsPlace (ids_named (known M)) place z) (sym may.id ∙ sym may.owner.id)
+      (subst (λ z. IsPlace (ids_named (history_of z)) place me) (sym may.rows_are) at) in
+      let stepped : HasStepped (hist M.log) O.id = subst (λ h. HasStepped h O.id) (sym sound.base.agrees)
+      (subst (λ z. HasStepped (known M) z) (sym may.owner.id) (has-stepped M text may.refused_by_none)) in
+      let key = (own_known O M.log lawful).1 stepped in
+      let calls = calls_stand O (ids_named (known M)) place book (book_of O M.log) may.stands
+      (get-below (ids_named (known M)) place O.id own) in (
+        key.0,
+        calls.chain ∙ ap (book_of O M.log).chain (get_or_from_slice_get (ids_named (known M)) place O.id [] own)
+            ∙ (log_keeps O M.log lawful).chains O.id ∙ key.1,
+      )

@@ -11,7 +11,7 @@ mod taking;
 pub use laws::commands_make_the_next;
 pub use making::{MadeNext, make_seeded_message};
 pub use refusal::NotMade;
-pub use saying::make_text_message;
+pub use saying::{make_text_message, who_may_speak_has_a_chain};
 
 #[cfg(test)]
 mod tests;

@@ -29,7 +29,7 @@ use secret_book::Book;
 use std::alloc::Global;
 
 /// A message that a member made: the bytes of its header and of its body, its id, its number among the member's own,
-/// and the own update secret, `None` where the own ratchet isn't known.
+/// and the own update secret, `None` where the own ratchet isn't known, and of a text.
 #[derive(Drop)]
 pub struct MadeNext {
     pub header: Bytes,

@@ -1,6 +1,6 @@
 //! The call of a command that makes a text.
 
-ghost use Rattle.std.specs.Prelude.{◌≡◌, ◌<◌, ◌≤◌, ◌∷◌, [], ◌++◌, ℕ, List, None, length, IfErr, IfOk, OnErr, OnOk};
+ghost use Rattle.std.specs.Prelude.{◌≡◌, ◌<◌, ◌≤◌, ◌∷◌, [], ◌++◌, ℕ, List, None, Some, length, IfErr, IfOk, OnErr, OnOk};
 ghost use Rattle.group_fields.specs.Headers.{HasSpelling};
 ghost use Rattle.group_fields.specs.declared.header.Header.{Header};
 ghost use Rattle.group_fields.specs.declared.header.Kind.TheVariants as kinds;
@@ -41,8 +41,8 @@ use std::alloc::Global;
 // What was done for a text is what the command makes, of whatever member after steps has this history and this book
 // and is refused the text by nothing. The function does nothing; its contract is the law.
 fn texts_are_the_next<K: Kem>()
-    ensures { (rule : messages.History → List Id) (rows : List Row) (random : Bytes) (me : Id) (place : ℕ) (text : Bytes)
-        (header : Header) (body : Bytes) (before after : HeldBook)
+    ensures { (rule : messages.History → List Id) (rows : List Row) (random : Bytes) (me : Id) (place : ℕ)
+        (text : Bytes) (header : Header) (body : Bytes) (before after : HeldBook)
         → IsSaid ⟦<K as Kem>⟧ rows random me place text header body before after → (M : Member) (O : Owner)
         → MayMake ⟦<K as Kem>⟧ rule me rows before (Send text) M O
         → IsSaidBy ⟦<K as Kem>⟧ rule M O random text (closed header body) body
@@ -50,6 +50,17 @@ fn texts_are_the_next<K: Kem>()
 {
     the_book_stands_for_its_log();
     texts_are_entries::<K>();
+    calls_stand::<K>();
+}
+
+/// A member after steps that nothing refuses a text knows the text chain of its own place, and so does its book: none is
+/// answered `Unfit` for want of it.
+pub fn who_may_speak_has_a_chain<K: Kem>()
+    ensures { (rule : messages.History → List Id) (rows : List Row) (me : Id) (place : ℕ) (book : HeldBook)
+        (text : Bytes) (M : Member) (O : Owner) → IsPlace (ids_named (history_of rows)) place me
+        → MayMake ⟦<K as Kem>⟧ rule me rows book (Send text) M O → (key : Bytes) × (book.chain place ≡ Some key) }
+{
+    the_book_stands_for_its_log();
     calls_stand::<K>();
 }
 

@@ -276,13 +276,19 @@ fn start_chain(alloc: Global, book: &mut Drill) -> Result<(), Fail> {
     Ok(())
 }
 
-/// Says `hello`. None without a text chain.
-fn say(
+/// Whether the message is the text of this number, with the body that is wanted, and nothing was learned.
+fn is_hello(made: &MadeNext, seq: u32) -> bool {
+    is_said(made, seq, 39) && made.body.as_slice() == HELLO.as_slice() && made.learned == None
+}
+
+/// Says `hello`. False without a text chain.
+fn says(
     alloc: Global,
     history: &mut History,
     book: &mut Drill,
     me: &MemberId,
-) -> Result<Option<MadeNext>, Fail> {
+    seq: u32,
+) -> Result<bool, Fail> {
     let Some(place) = history.place(me) else {
         return Err(Fail::new("no place"));
     };
@@ -292,34 +298,31 @@ fn say(
     match make_text_message::<Drill37, RemoveWins>(
         alloc, history, book, me, place, b"hello", &RANDOM,
     ) {
-        Ok(made) => Ok(Some(made)),
-        Err(NotMade::Unfit) => Ok(None),
+        Ok(made) => Ok(is_hello(&made, seq)),
+        Err(NotMade::Unfit) => Ok(false),
         Err(_) => Err(Fail::new("no text")),
     }
 }
 
-/// Whether a text of this number was made, with the body that is wanted, and nothing was learned.
-fn says_hello(made: Option<MadeNext>, seq: u32) -> bool {
-    match made {
-        Some(made) => {
-            is_said(&made, seq, 39)
-                && made.body.as_slice() == HELLO.as_slice()
-                && made.learned == None
-        }
-        None => false,
-    }
+/// The first text has no chain yet.
+fn speaks(
+    alloc: Global,
+    history: &mut History,
+    book: &mut Drill,
+    me: &MemberId,
+) -> Result<bool, Fail> {
+    let early = says(alloc, history, book, me, 2)? || history.count() != 1;
+    start_chain(alloc, book)?;
+    let late = says(alloc, history, book, me, 2)? && history.count() == 2;
+    Ok(late && !early)
 }
 
-/// The first text has no chain yet.
 fn told(alloc: Global, book: &mut Drill) -> Result<bool, Fail> {
     meet(alloc, book)?;
     let numbers = in_order(alloc)?;
     let mut history = group_of(alloc, numbers)?;
     let me = MemberId(id_of(alloc, numbers.0)?);
-    let early = say(alloc, &mut history, book, &me)?.is_none() && history.count() == 1;
-    start_chain(alloc, book)?;
-    let made = say(alloc, &mut history, book, &me)?;
-    Ok(early && says_hello(made, 2) && history.count() == 2)
+    speaks(alloc, &mut history, book, &me)
 }
 
 #[test]
