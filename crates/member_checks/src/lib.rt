@@ -12,6 +12,7 @@ mod stepped;
 
 pub use refusing::{first_refusal, refusal_before_made};
 pub use seat::Seat;
+pub use standing::{is_member, is_named};
 
 #[cfg(test)]
 mod tests;

@@ -20,8 +20,8 @@ use reference_member::Refusal;
 // The most messages that a history may have.
 const MESSAGES: u32 = 4096;
 
-// Whether a member is one by all rows of the history.
-pub(crate) fn is_member<G: Membership>(history: &History, id: &MemberId) -> bool
+/// Whether a member is one by all rows of the history.
+pub fn is_member<G: Membership>(history: &History, id: &MemberId) -> bool
     ensures { IsTrue result ↔ In id.now.0.0 (G.rule (history_of history.now)) }
 {
     let mut all = Marks::new();
@@ -29,8 +29,8 @@ pub(crate) fn is_member<G: Membership>(history: &History, id: &MemberId) -> bool
     is_among(history, G::members(history, &all, None), id)
 }
 
-// Whether the history names a member.
-pub(crate) fn is_named(history: &History, id: &MemberId) -> bool
+/// Whether the history names a member.
+pub fn is_named(history: &History, id: &MemberId) -> bool
     ensures { IsTrue result ↔ In id.now.0.0 (ids_named (history_of history.now)) }
 {
     match history.place(id) {
