@@ -1,0 +1,3 @@
+pub mod Kinds
+pub mod Crowds
+pub mod Drawn
