@@ -1,3 +1,3 @@
-pub mod Kinds
-pub mod Crowds
-pub mod Drawn
+pub mod AnswerKinds
+pub mod AnswerCrowds
+pub mod PlanDraws

@@ -1,6 +1,6 @@
 //! Whom the answer to a message has a part for, before that message is a row of the history.
 
-ghost use Rattle.std.specs.Prelude.{◌≡◌, ◌<◌, ◌∷◌, ◌&&◌, ℕ, MatchOption};
+ghost use Rattle.std.specs.Prelude.{◌≡◌, ◌↔◌, ◌<◌, ◌∷◌, ◌&&◌, ℕ, IsTrue, MatchOption};
 ghost use Rattle.causal_history.specs.Bits.{bit};
 ghost use Rattle.causal_history.specs.Rows.{history_of};
 ghost use Rattle.group_messages.specs.Messages.{message_of};
@@ -43,6 +43,13 @@ fn both(a: Crowd, b: Crowd) -> Crowd
     ensures { (p : ℕ) → bit result.0 p ≡ (bit a.0 p && bit b.0 p) }
 {
     a.without(a.without(b))
+}
+
+// Whether two ids are one.
+fn is_same(a: &MemberId, b: &MemberId) -> bool
+    ensures { IsTrue result ↔ (a.now.0.0 ≡ b.now.0.0) }
+{
+    *a == *b
 }
 
 // Whom the message adds, where it is an add.
@@ -130,7 +137,7 @@ fn due_to_unseeded<G: Membership>(
 {
     match added_by(operation) {
         Some(target) => {
-            if target == *me {
+            if is_same(&target, me) {
                 Crowd::new()
             } else {
                 handed::<G>(history, operation, &target)

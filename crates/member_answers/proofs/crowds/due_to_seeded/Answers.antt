@@ -1,11 +1,10 @@
-use Rattle.std.proofs.Common.{◌≡◌, Bool, true, false, ◌∷◌, absurd, sym, ◌∙◌, subst}
-use Rattle.group_model.specs.Sets.{Id}
+use Rattle.std.proofs.Common.{◌≡◌, Bool, true, false, ◌∷◌, sym, ◌∙◌, subst}
 use Rattle.group_model.specs.Membership.{IsSeeded}
 use Rattle.group_messages.specs.Messages.{message_of}
 use Rattle.causal_history.specs.Bits.{bit}
 use Rattle.causal_history.specs.Rows.{history_of}
 use Rattle.member_answers.specs.Plans.{IsAnswerCrowd}
-use Rattle.member_answers.proofs.Crowds.{crowd-forwarded, crowd-nobody}
+use Rattle.member_answers.proofs.AnswerCrowds.{crowd-forwarded, crowd-nobody}
 use Rattle.member_answers.proofs.crowds.due_to_seeded.Goals as goal
 
 pub returns-then-took : goal.returns-then-took

@@ -1,7 +1,7 @@
 use Rattle.group_messages.specs.Messages.{message_of}
 use Rattle.causal_history.specs.Bits.{bit}
 use Rattle.causal_history.specs.Rows.{history_of}
-use Rattle.member_answers.proofs.Crowds.{hands}
+use Rattle.member_answers.proofs.AnswerCrowds.{hands}
 use Rattle.member_answers.proofs.crowds.handed.Goals as goal
 
 pub returns : goal.returns

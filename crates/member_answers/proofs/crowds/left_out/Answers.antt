@@ -5,7 +5,7 @@ use Rattle.group_model.specs.Marks.{IsCrowd}
 use Rattle.group_messages.specs.Messages.{message_of}
 use Rattle.causal_history.specs.Bits.{bit}
 use Rattle.causal_history.specs.Rows.{history_of}
-use Rattle.member_answers.proofs.Crowds.{forwards}
+use Rattle.member_answers.proofs.AnswerCrowds.{forwards}
 use Rattle.member_answers.proofs.crowds.left_out.Goals as goal
 
 pub returns : goal.returns

@@ -1,13 +1,9 @@
 use Rattle.std.proofs.Common.{◌<◌, sym, subst}
 use Rattle.group_model.specs.Sets.{In}
-use Rattle.group_model.specs.Membership.{ids_named}
-use Rattle.group_model.specs.Marks.{IsCrowd}
 use Rattle.group_model.proofs.Pasts.{past-within}
 use Rattle.group_messages.specs.Messages.{message_of}
-use Rattle.causal_history.specs.Bits.{bit}
 use Rattle.causal_history.specs.Rows.{history_of}
 use Rattle.causal_cast.proofs.Histories.{history-length}
-use Rattle.std.proofs.Common.{◌∷◌}
 use Rattle.member_answers.proofs.crowds.members_with.Goals as goal
 
 -- the marked numbers are those of rows

@@ -1,4 +1,4 @@
-use Rattle.member_answers.proofs.Drawn.{answer-drawn}
+use Rattle.member_answers.proofs.PlanDraws.{answer-drawn}
 use Rattle.member_answers.proofs.laws.planned_answers_are_drawn.Goals as goal
 
 pub returns : goal.returns

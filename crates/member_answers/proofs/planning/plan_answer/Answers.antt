@@ -7,10 +7,9 @@ use Rattle.causal_history.specs.Bits.{bit}
 use Rattle.causal_history.specs.Rows.{history_of}
 use Rattle.body_parts.specs.declared.addressing.Receiver.{Receiver}
 use Rattle.body_parts.specs.Receivers.{AreReceivers}
-use Rattle.next_messages.specs.Bodies.{LacksDraws}
 use Rattle.next_messages.proofs.Drawing.{lacks}
 use Rattle.member_answers.specs.Plans.{LacksAnswerKey}
-use Rattle.member_answers.proofs.Drawn.{planned}
+use Rattle.member_answers.proofs.PlanDraws.{planned}
 use Rattle.member_answers.proofs.planning.plan_answer.Goals as goal
 
 pub returns-in_err-draws-clause-unusable : goal.returns-in_err-draws-clause-unusable

@@ -1,10 +1,9 @@
 -- What a plan draws, and what it lacks.
-use Rattle.std.proofs.Common.{◌≡◌, ℕ, Bool, true, List, ◌∷◌, IsSome, sym, subst}
+use Rattle.std.proofs.Common.{◌≡◌, ℕ, Bool, List, ◌∷◌, IsSome, subst}
 use Rattle.kem_trait.specs.declared.kem.Kem.{Ghosts}
 use Rattle.group_model.specs.Sets.{Bytes, Id, In}
 use Rattle.group_model.specs.Messages.{Message, History}
 use Rattle.group_model.specs.Membership.{IsAddressee, IsMembershipRule, ids_named}
-use Rattle.group_model.specs.Marks.{IsPlace}
 use Rattle.group_model.specs.Pairing.{draws}
 use Rattle.group_model.specs.Primitives.{Primitives}
 use Rattle.group_model.proofs.Places.{in-place}
@@ -21,7 +20,7 @@ use Rattle.next_messages.proofs.Addressed.{addressed-placed}
 use Rattle.reference_member.specs.Accepted.{DrawsForAnswer, part_is_there, with_taken, with_took}
 use Rattle.reference_member.specs.Members.{Member, known}
 use Rattle.member_answers.specs.Plans.{IsAnswerCrowd, IsPlanned, answer_to}
-use Rattle.member_answers.proofs.Kinds.{answered-again, answers-move_nobody}
+use Rattle.member_answers.proofs.AnswerKinds.{answered-again, answers-move_nobody}
 
 -- draws for the receivers of the crowd make the plan
 pub planned : (K : Primitives) (rule : History → List Id) (h : History) (place : ℕ) (me : Id) (o : Message)

@@ -10,6 +10,10 @@ use Rattle.reference_member.specs.Messages.{answer_kind}
 use Rattle.reference_member.specs.Accepted.{with_took}
 use Rattle.member_answers.specs.Plans.{answer_to, answering}
 
+-- an add is of one member
+pub added-one : (k : Kind) (x y : Id) → k ≡ Add x → k ≡ Add y → x ≡ y
+added-one k x y e d = let f : Add x ≡ Add y = sym e ∙ d in cc
+
 -- what adds nobody else is answered by an ack
 acked : (me : Id) (k : Kind) → ((y : Id) → k ≡ Add y → y ≡ me) → answer_kind me k ≡ kinds.Ack
 acked me (Create members) f = refl

@@ -11,8 +11,8 @@ use Rattle.causal_cast.proofs.Forwards.{forward-none, handed-crowd, left_out-cro
 use Rattle.causal_cast.proofs.OverItself.{addressee-in, addressee-out}
 use Rattle.forwarding.specs.Answers.{IsAnswerOf}
 use Rattle.forwarding.proofs.Answers.{seen-by_member, member-sees}
-use Rattle.member_answers.specs.Plans.{IsAnswerCrowd, answer_to}
-use Rattle.member_answers.proofs.Kinds.{answered-ack, answered-add_ack}
+use Rattle.member_answers.specs.Plans.{IsAnswerCrowd}
+use Rattle.member_answers.proofs.AnswerKinds.{answered-ack, answered-add_ack}
 
 module _ (rule : History → List Id) (is_rule : IsMembershipRule rule) (before : History) (o : Message)
     (g : IsHistory (o ∷ before)) where
