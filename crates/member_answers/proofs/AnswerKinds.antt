@@ -8,7 +8,7 @@ use Rattle.group_model.specs.Membership.{MovesNobody}
 use Rattle.group_model.proofs.ListFacts.{equal_id, other_id}
 use Rattle.reference_member.specs.Messages.{answer_kind}
 use Rattle.reference_member.specs.Accepted.{with_took}
-use Rattle.member_answers.specs.Plans.{answer_to, answering}
+use Rattle.member_answers.specs.Plans.{answer_to, answer_by}
 
 -- an add is of one member
 pub added-one : (k : Kind) (x y : Id) → k ≡ Add x → k ≡ Add y → x ≡ y
@@ -32,13 +32,13 @@ add_acked me k y e n =
 
 pub answered-ack : (me : Id) (o : Message) (took : Bool) → ((y : Id) → o.kind ≡ Add y → y ≡ me)
     → answer_to me o took ≡ Ack o.id took
-answered-ack me o took f = ap (λ k. answering k o.id took) (acked me o.kind f)
+answered-ack me o took f = ap (λ k. answer_by k o.id took) (acked me o.kind f)
 
 pub answered-add_ack : (me : Id) (o : Message) (took : Bool) (y : Id) → o.kind ≡ Add y → y ≢ me
     → answer_to me o took ≡ AddAck o.id
-answered-add_ack me o took y e n = ap (λ k. answering k o.id took) (add_acked me o.kind y e n)
+answered-add_ack me o took y e n = ap (λ k. answer_by k o.id took) (add_acked me o.kind y e n)
 
-took-again : (k : HeaderKind) (o : Id) (took opened : Bool) → with_took took (answering k o opened) ≡ answering k o took
+took-again : (k : HeaderKind) (o : Id) (took opened : Bool) → with_took took (answer_by k o opened) ≡ answer_by k o took
 took-again kinds.Create o took opened = refl
 took-again kinds.Update o took opened = refl
 took-again kinds.Remove o took opened = refl
@@ -52,7 +52,7 @@ pub answered-again : (me : Id) (o : Message) (took opened : Bool) (k : Kind) →
     → with_took took k ≡ answer_to me o took
 answered-again me o took opened k e = ap (with_took took) e ∙ took-again (answer_kind me o.kind) o.id took opened
 
-nobody-moved : (k : HeaderKind) (o : Id) (took : Bool) → MovesNobody (answering k o took)
+nobody-moved : (k : HeaderKind) (o : Id) (took : Bool) → MovesNobody (answer_by k o took)
 nobody-moved kinds.Create o took = record { names_nobody = λ y n. n; removes_nobody = λ y n. n }
 nobody-moved kinds.Update o took = record { names_nobody = λ y n. n; removes_nobody = λ y n. n }
 nobody-moved kinds.Remove o took = record { names_nobody = λ y n. n; removes_nobody = λ y n. n }

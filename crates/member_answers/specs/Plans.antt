@@ -14,13 +14,13 @@ use Rattle.next_messages.specs.Bodies.{LacksDraws}
 use Rattle.reference_member.specs.Messages.{answer_kind}
 
 -- an answer to the operation: an add-ack, and else an ack that says whether its sender took the operation
-abbrev pub answering : HeaderKind → (operation : Id) → (took : Bool) → Kind
-answering kinds.AddAck operation took = AddAck operation
-answering _ operation took = Ack operation took
+abbrev pub answer_by : HeaderKind → (operation : Id) → (took : Bool) → Kind
+answer_by kinds.AddAck operation took = AddAck operation
+answer_by _ operation took = Ack operation took
 
 -- how the member answers the message of another
 abbrev pub answer_to : (me : Id) → Message → (took : Bool) → Kind
-answer_to me o took = answering (answer_kind me o.kind) o.id took
+answer_to me o took = answer_by (answer_kind me o.kind) o.id took
 
 -- The bits are the places of those whom the answer to the operation has a part for, whatever answer of its kind the
 -- member at the place makes next. The history has the operation.

@@ -84,11 +84,7 @@ fn left_out<G: Membership>(history: &History, place: u8, operation: &HeaderView<
 }
 
 // Whom the add-ack of the add hands its sender's ratchet to: whom that adds, where it is a member with it.
-fn handed<G: Membership>(
-    history: &History,
-    operation: &HeaderView<'_>,
-    target: &MemberId,
-) -> Crowd
+fn handed<G: Membership>(history: &History, operation: &HeaderView<'_>, target: &MemberId) -> Crowd
     requires history { IsHistory (message_of operation.now ∷ history_of history.now) }
     requires adds { (message_of operation.now).kind ≡ Add target.now.0.0 }
     requires well { StandsWell (history_of history.now) (message_of operation.now) (message_of operation.now).kind }

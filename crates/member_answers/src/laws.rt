@@ -15,8 +15,8 @@ ghost use Rattle.member_answers.specs.Plans.{IsPlanned, answer_to};
 
 use kem_trait::Kem;
 
-/// Where an answer was planned as if the operation's part opened, the step's random bytes give usable keys for each whom
-/// the answer would have a part for then, whether it does open or not.
+/// Where an answer was planned as if the operation's part opened, the step's random bytes give usable keys for each of
+/// those whom the answer would have a part for then, whether that part does open or not.
 pub fn planned_answers_are_drawn<K: Kem>()
     ensures { (rule : History → List Id) → IsMembershipRule rule → (packet : ReadPacket) (M : Member) (place : ℕ)
         (me : Id) (random : Bytes) (bits : ℕ → Bool) (drawn : List Drawn)

@@ -47,13 +47,15 @@ fn receivers_with(
 }
 
 /// Plans a member's answer to an operation of another that it is about to take: whom the answer has parts for, and what
-/// the step's 32 random bytes draw for each of these. Nothing is changed, so random bytes without a usable key leave the
-/// member as it was.
+/// the step's 32 random bytes draw for each of these. Nothing is changed, so random bytes without a usable key leave
+/// the member as it was.
 ///
-/// The history is the one before the operation, and the place the member's own among those of the history and, behind
-/// them, those that the operation names besides. `took` is whether the operation has a part for the member: the answer
-/// is planned as if that opened. `NoUsableKey` only where the random bytes give no usable key for one of those whom the
-/// answer has a part for. `Memory` where an allocation was refused.
+/// The history is the one before the operation, which may be its next row; a create stands over the empty history. The
+/// place is the member's own among those of the history and, behind them, those that the operation names besides.
+/// `took` is whether the operation has a part for the member: the answer is planned as if that opened.
+///
+/// `NoUsableKey` only where the random bytes give no usable key for one of those whom the answer has a part for.
+/// `Memory` where an allocation was refused.
 pub fn plan_answer<K: Kem, G: Membership>(
     alloc: Global,
     history: &History,
