@@ -7,3 +7,6 @@ mod planning;
 
 pub use laws::planned_answers_are_drawn;
 pub use planning::{AnswerPlan, plan_answer};
+
+#[cfg(test)]
+mod tests;
