@@ -1,6 +1,11 @@
 //! Whom answers are planned for, over a group of two members into which a third is added beside an update, worked out by
 //! hand.
 
+ghost use Rattle.std.specs.Prelude.{◌≡◌, true};
+ghost use Rattle.causal_history.specs.Rows.{history_of};
+ghost use Rattle.group_messages.specs.Messages.{message_of};
+ghost use Rattle.member_view.specs.Crowds.{StandsWell};
+
 use crate::*;
 use causal_history::History;
 use group_fields::{
@@ -154,7 +159,19 @@ fn push(alloc: Global, history: &mut History, does: Does) -> Result<bool, Memory
 
 // ---- what is asked, without clauses: what calls it is proved fast
 
-// The plan of the member with this number. None where it may not be asked.
+// Whether the operation is no create, or the first message.
+fn stands_well(history: &History, operation: &HeaderView<'_>) -> bool
+    ensures { result ≡ true
+        → StandsWell (history_of history.now) (message_of operation.now) (message_of operation.now).kind }
+{
+    let first = history.count() == 0;
+    match operation.kind() {
+        Kind::Create => first,
+        _ => true,
+    }
+}
+
+// The plan of the member. None where it may not be asked.
 fn plan(
     alloc: Global,
     history: &History,
@@ -163,14 +180,16 @@ fn plan(
     cards: &Cards,
     took: bool,
 ) -> Result<Option<AnswerPlan<Drill37>>, Fail> {
-    let first = history.count() == 0;
-    let may = history.may_push(operation, cards)? && (first || operation.kind() != Kind::Create);
-    match place_with(history, Some(operation), me) {
-        Some(place) if may => Ok(Some(plan_answer::<Drill37, RemoveWins>(
-            alloc, history, me, place, operation, took, &[3; 32],
-        )?)),
-        _ => Ok(None),
+    let _rows = history.count();
+    if !stands_well(history, operation) || !history.may_push(operation, cards)? {
+        return Ok(None);
     }
+    let Some(place) = place_with(history, Some(operation), me) else {
+        return Ok(None);
+    };
+    Ok(Some(plan_answer::<Drill37, RemoveWins>(
+        alloc, history, me, place, operation, took, &[3; 32],
+    )?))
 }
 
 // Whether the plan has a part and draws for the member exactly where this is wanted.
